@@ -5,7 +5,7 @@ pub mod goal;
 pub mod system;
 
 ghost use Rattle.game.specs.Van.{Van-case};
-ghost use Rattle.game.specs.Theorems.{Strategy-theorem, Sheets-exist, Granted-where-ensured, Plays-exist, Sheets-agree, Choices-are-sums};
+ghost use Rattle.game.specs.Theorems.{Strategy-theorem, Sheets-exist, Granted-where-ensured, Plays-exist, Sets-agree, Sheets-agree, Choices-are-sums};
 
 pub fn strategy_theorem_stands() -> u8
     ensures { λ _. ⌜ Strategy-theorem ⌝ }
@@ -27,6 +27,12 @@ pub fn granted_where_ensured() -> u8
 
 pub fn plays_exist() -> u8
     ensures { λ _. ⌜ Plays-exist ⌝ }
+{
+    0
+}
+
+pub fn sets_agree() -> u8
+    ensures { λ _. ⌜ Sets-agree ⌝ }
 {
     0
 }
