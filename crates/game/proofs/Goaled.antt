@@ -1,8 +1,8 @@
 -- Goals and formulas. Assumes nothing.
-use mathlib.Core.Path.{_≡_}
+use mathlib.Core.Path.{_≡_, refl}
 use mathlib.Core.Logic.{_⊎_, inl, inr, _↔_}
 use mathlib.Core.Bool.{Bool, true, false}
-use Prim.Native.Nat.{ℕ, suc, _<_}
+use Prim.Native.Nat.{ℕ, suc, _<_, _≤_}
 use native.Mathlib.Omega.{arith}
 use native.Mathlib.Decide.{decLt}
 use Rattle.game.specs.Meaning.{Meaning, Lawful}
@@ -30,5 +30,13 @@ module _ (M : Meaning) (law : Lawful M) (R : ℕ → States) (φ : Goal) where
   test-is s (yes h) hs = (λ p. passed (holds? M law R φ s h) p, λ x. passes-true (holds? M law R φ s h) x)
   test-is s (no h) hs = absurd (h hs)
 
+  test-past : (s : ℕ) (d : Dec (s < M .states)) → M .states ≤ s → test s d ≡ false
+  unfolding test
+  test-past s (yes h) hs = absurd (omega arith)
+  test-past s (no h) hs = refl
+
 pub goals-have-sets : Goals-have-sets
-goals-have-sets M law R φ = (λ s. test M law R φ s (decLt s (M .states)), λ s hs. test-is M law R φ s (decLt s (M .states)) hs)
+goals-have-sets M law R φ = (λ s. test M law R φ s (decLt s (M .states)), record {
+  decides = λ s hs. test-is M law R φ s (decLt s (M .states)) hs;
+  past = λ s hs. test-past M law R φ s (decLt s (M .states)) hs;
+})
