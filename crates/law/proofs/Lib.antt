@@ -1,0 +1,10 @@
+pub mod Sides
+pub mod Moving
+pub mod Kept
+pub mod Calls
+pub mod Journeys
+pub mod Telling
+pub mod Speaking
+pub mod Lawfully
+pub mod Sameness
+pub mod Existing
