@@ -7,10 +7,10 @@ use Prim.Native.Nat.{ℕ, zero, suc, _+_, _-_, _%_, _≤_, _<_, min}
 use native.Mathlib.Numerals.{add-one}
 use native.Mathlib.Omega.{arith}
 use lib.Dec.{eqb, leb, ltb}
-use lib.ListN.{length, getD, take, drop}
+use lib.ListN.{length, getD, set, take, drop}
 use Rattle.std.specs.Holes.{inserted, removed}
 use Rattle.std.proofs.shelf.Tests.{cases-lt, cases-eq, le-leb, lt-leb, cond-true, cond-false}
-use Rattle.std.proofs.shelf.Lists.{length-append, length-take-le, length-drop, length-push, getD-push, getD-append-left, getD-take, take-append-drop, take-all, take-more, drop-more}
+use Rattle.std.proofs.shelf.Lists.{length-set, getD-set-same, getD-set-other, length-append, length-take-le, length-drop, length-push, getD-push, getD-append-left, getD-take, take-append-drop, take-all, take-more, drop-more}
 use Rattle.std.proofs.shelf.Edits.{length-inserted, length-removed, getD-inserted-below, getD-inserted-at, getD-inserted-above, getD-removed-below, getD-removed-above}
 use Rattle.std.proofs.shelf.Ways.{tells}
 use Rattle.boards.specs.Points.{at-most, member, Rise}
@@ -215,6 +215,78 @@ in-rises {n} {xs} r i p le pn low high = record { long = size; top = top; up = u
                 ]
           ]
         ]
+
+-- a point that moves by one turns one state
+at-most-set : (xs : List ℕ) (i v t : ℕ) → i < length xs → at-most (set xs i v) t + cond (leb (getD xs i 0) t) 1 0 ≡ at-most xs t + cond (leb v t) 1 0
+at-most-set [] i v t lt = absurd (omega arith)
+at-most-set (x ∷ xs) zero v t lt = omega arith
+at-most-set (x ∷ xs) (suc i) v t lt = omega (arith, at-most-set xs i v t (omega arith))
+
+parity-raised : (a b s t : ℕ) → b + cond (leb s t) 1 0 ≡ a + cond (leb (s + 1) t) 1 0 → eqb (b % 2) 1 ≡ cond (eqb t s) (not (eqb (a % 2) 1)) (eqb (a % 2) 1)
+parity-raised a b s t e = grind (arith, tells)
+
+parity-lowered : (a b s t : ℕ) → b + cond (leb (s + 1) t) 1 0 ≡ a + cond (leb s t) 1 0 → eqb (b % 2) 1 ≡ cond (eqb t s) (not (eqb (a % 2) 1)) (eqb (a % 2) 1)
+parity-lowered a b s t e = grind (arith, tells)
+
+pub raised-turns : (xs : List ℕ) (i s : ℕ) → i < length xs → getD xs i 0 ≡ s → (t : ℕ) → member (set xs i (s + 1)) t ≡ cond (eqb t s) (not (member xs t)) (member xs t)
+raised-turns xs i s lt e t =
+    parity-raised (at-most xs t) (at-most (set xs i (s + 1)) t) s t
+    (ap (λ y. at-most (set xs i (s + 1)) t + cond (leb y t) 1 0) (sym e) ∙ at-most-set xs i (s + 1) t lt)
+
+pub lowered-turns : (xs : List ℕ) (i s : ℕ) → i < length xs → getD xs i 0 ≡ s + 1 → (t : ℕ) → member (set xs i s) t ≡ cond (eqb t s) (not (member xs t)) (member xs t)
+lowered-turns xs i s lt e t =
+    parity-lowered (at-most xs t) (at-most (set xs i s) t) s t
+    (ap (λ y. at-most (set xs i s) t + cond (leb y t) 1 0) (sym e) ∙ at-most-set xs i s t lt)
+
+pub set-rises : {n : ℕ} {xs : List ℕ} → Rise n xs → (i v : ℕ) → i < length xs → v ≤ n → ((k : ℕ) → k < i → getD xs k 0 < v) →
+    ((k : ℕ) → i < k → k < length xs → getD xs k 0 < n → v < getD xs k 0) → Rise n (set xs i v)
+set-rises {n} {xs} r i v lt le low high = record { long = size ∙ r .long; top = top; up = up }
+  where
+    size : length (set xs i v) ≡ length xs
+    size = length-set xs i v
+
+    here : (k : ℕ) → k ≡ i → getD (set xs i v) k 0 ≡ v
+    here k e = ap (λ m. getD (set xs i v) m 0) e ∙ getD-set-same xs i v 0 lt
+
+    other : (k : ℕ) → (k ≡ i → ⊥) → getD (set xs i v) k 0 ≡ getD xs k 0
+    other k ne = getD-set-other xs i k v 0 ne
+
+    top : (k : ℕ) → k < length (set xs i v) → getD (set xs i v) k 0 ≤ n
+    top k l = elim (cases-eq k i) [ inl e ↦ omega (arith, here k e) | inr ne ↦ omega (arith, other k ne, r .top k (omega (arith, size))) ]
+
+    up : (j k : ℕ) → j < k → k < length (set xs i v) → getD (set xs i v) k 0 < n → getD (set xs i v) j 0 < getD (set xs i v) k 0
+    up j k o l u =
+        elim (cases-eq k i) [
+          | inl e ↦ let nj : j ≡ i → ⊥ = λ f. omega arith in omega (arith, here k e, other j nj, low j (omega arith))
+          | inr ne ↦ elim (cases-eq j i) [
+            | inl e ↦ omega (arith, here j e, other k ne, high k (omega arith) (omega (arith, size)) (omega (arith, other k ne)))
+            | inr nj ↦ omega (arith, other j nj, other k ne, r .up j k o (omega (arith, size)) (omega (arith, other k ne)))
+          ]
+        ]
+
+-- a point s moved up, and a point s + 1 moved down
+pub raised-rises : {n : ℕ} {xs : List ℕ} → Rise n xs → (i s : ℕ) → i + 1 < length xs → getD xs i 0 ≡ s → s < n → (getD xs (i + 1) 0 ≡ s + 1 → ⊥) → Rise n (set xs i (s + 1))
+raised-rises {n} {xs} r i s lt e h ne = set-rises r i (s + 1) (omega arith) (omega arith) low high
+  where
+    low : (k : ℕ) → k < i → getD xs k 0 < s + 1
+    low k l = omega (arith, r .up k i l (omega arith) (omega arith))
+
+    high : (k : ℕ) → i < k → k < length xs → getD xs k 0 < n → s + 1 < getD xs k 0
+    high k o l u =
+        let next : s < getD xs (i + 1) 0 = elim (cases-lt (getD xs (i + 1) 0) n) [ inl a ↦ omega (arith, r .up i (i + 1) (omega arith) lt a) | inr a ↦ omega arith ] in
+        let far : getD xs (i + 1) 0 ≤ getD xs k 0 = rises r (i + 1) k (omega arith) l in
+        elim (cases-eq (getD xs (i + 1) 0) (s + 1)) [ inl f ↦ absurd (ne f) | inr f ↦ omega arith ]
+
+pub lowered-rises : {n : ℕ} {xs : List ℕ} → Rise n xs → (i s : ℕ) → i < length xs → getD xs i 0 ≡ s + 1 → s < n → ((k : ℕ) → k < i → getD xs k 0 < s) → Rise n (set xs i s)
+lowered-rises {n} {xs} r i s lt e h low = set-rises r i s lt (omega arith) low (λ k o l u. omega (arith, r .up i k o l u))
+
+-- a state below n is not the last number
+pub not-last : {n : ℕ} {xs : List ℕ} → Rise n xs → (i s : ℕ) → i < length xs → getD xs i 0 ≡ s → s < n → i + 1 < length xs
+not-last {n} {xs} r i s lt e h =
+    elim (cases-eq i n) [
+      | inl same ↦ absurd (omega (arith, last-free r, ap (λ m. getD xs m 0) same))
+      | inr ne ↦ omega (arith, r .long)
+    ]
 
 -- what the place that a search finds tells of the state
 even-odd : (a i : ℕ) → a ≡ i + 1 → eqb (i % 2) 0 ≡ eqb (a % 2) 1

@@ -52,15 +52,21 @@ fn toggle(row: &mut [u16], n: u16, point: u16)
     }
 }
 
-// Turns the membership of one state.
+// Turns the membership of one state: where only the edge of a run shifts, one number changes.
 fn flip(row: &mut [u16], n: u16, state: u16)
     requires rise { ⌜ Rise n (now row) ⌝ }
     requires known { ⌜ state < n ⌝ }
     ensures rise { λ _. ⌜ Rise n (now (row .exit)) ⌝ }
     ensures turned { λ _. ⌜ ((t : ℕ) → t < n → member (now (row .exit)) t ≡ cond (eqb t state) (not (member (now (row .entry)) t)) (member (now (row .entry)) t)) ⌝ }
 {
-    toggle(row, n, state);
-    toggle(row, n, state + 1);
+    match row.binary_search(&state) {
+        Ok(i) if row[i + 1] != state + 1 => row[i] = state + 1,
+        Err(i) if row[i] == state + 1 => row[i] = state,
+        _ => {
+            toggle(row, n, state);
+            toggle(row, n, state + 1);
+        }
+    }
 }
 
 // Makes one state a member, or none.
