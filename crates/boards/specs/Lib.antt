@@ -1,0 +1,5 @@
+pub mod Meaning
+pub mod Calls
+pub mod Bits
+pub mod Points
+pub mod Owed
