@@ -1,0 +1,4 @@
+pub mod Turns
+pub mod Games
+pub mod Costs
+pub mod Notes

@@ -1,0 +1,4 @@
+pub mod Sides
+pub mod Listing
+pub mod Drawing
+pub mod Replying
