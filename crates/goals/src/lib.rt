@@ -3,3 +3,4 @@ mod common;
 pub mod evaluate;
 mod plain;
 mod search;
+pub mod word;
