@@ -1,16 +1,19 @@
 -- The numbers of a row below n are the states where membership changes. Assumes nothing.
 use mathlib.Core.Path.{_≡_, refl, sym, ap, subst, _∙_}
-use mathlib.Core.Logic.{_⊎_, inl, inr}
-use mathlib.Core.Bool.{Bool, true, false, not}
+use mathlib.Core.Logic.{inl, inr}
+use mathlib.Core.Bool.{Bool, true, false, not, _&&_}
 use mathlib.Core.List.{List}
-use Prim.Native.Nat.{ℕ, zero, suc, _+_, _-_, _%_, _≤_, _<_}
+use Prim.Native.Nat.{ℕ, zero, suc, _-_, _%_, _≤_, _<_}
 use native.Mathlib.Omega.{arith}
-use lib.Dec.{eqb, leb}
+use lib.Dec.{eqb, leb, ltb}
 use lib.ListN.{length, getD}
-use Rattle.std.proofs.shelf.Tests.{cases-lt, cases-eq, cases-bool, leb-true, leb-false}
+use Rattle.std.specs.Of.Vec.{vec-items, vec-len}
+use Rattle.std.proofs.shelf.Tests.{cases-lt, cases-eq, cases-bool, leb-true, leb-false, and-from, lt-ltb}
 use Rattle.std.proofs.shelf.Ways.{tells}
-use Rattle.boards.specs.Points.{at-most, member, Rise, before, Listed, Points-are-changes}
+use Rattle.boards.specs.Points.{at-most, member, Rise, row-at}
+use Rattle.boards.specs.Stored.{before, Listed, Turns, Points-are-changes}
 use Rattle.boards.proofs.Points.{at-most-parted, rises, reaches, found-at}
+use Rattle.boards.proofs.Memory.{rows-rise}
 
 -- the first index at which a test fails
 first : (p : ℕ → Bool) (m : ℕ) → (i : ℕ) × (i ≤ m) × ((k : ℕ) → k < i → p k ≡ true) × (i < m → p i ≡ false)
@@ -44,7 +47,7 @@ parted {n} {xs} r t =
       (λ k h l. omega (arith, leb-false (getD xs (f .0) 0) t (f .3 (omega arith)), rises r (f .0) k h l)),
     )
 
-listed-changes : {n : ℕ} {xs : List ℕ} → Rise n xs → (t : ℕ) → t < n → Listed xs t → member xs t ≡ not (before xs t)
+listed-changes : {n : ℕ} {xs : List ℕ} → Rise n xs → (t : ℕ) → t < n → Listed xs t → Turns (member xs) t
 listed-changes {n} {xs} r zero h (j, lt, e) =
     let none : j ≡ 0 = omega (arith, reaches r j lt) in
     sym (found-at r j 0 lt e h) ∙ ap (λ k. eqb (k % 2) 0) none
@@ -59,20 +62,20 @@ listed-changes {n} {xs} r (suc u) h (j, lt, e) =
 same-not : (a b : Bool) → a ≡ b → a ≡ not b → ⊥
 same-not a b e f = grind (arith, tells)
 
-changes-listed : {n : ℕ} {xs : List ℕ} → Rise n xs → (t : ℕ) → t < n → member xs t ≡ not (before xs t) → Listed xs t
+changes-listed : {n : ℕ} {xs : List ℕ} → Rise n xs → (t : ℕ) → t < n → Turns (member xs) t → Listed xs t
 changes-listed {n} {xs} r t h turns = at (parted r t)
   where
     -- no number is t, so that as many are below it
     still : (u i : ℕ) → t ≡ suc u → at-most xs t ≡ i → at-most xs u ≡ i → ⊥
     still u i e a b =
-        same-not (member xs t) (member xs u) (ap (λ k. eqb (k % 2) 1) (a ∙ sym b)) (turns ∙ ap (λ k. not (before xs k)) e)
+        same-not (member xs t) (member xs u) (ap (λ k. eqb (k % 2) 1) (a ∙ sym b)) (turns ∙ ap (λ k. not (before (member xs) k)) e)
 
     at : ((i : ℕ) × (i ≤ length xs) × ((k : ℕ) → k < i → getD xs k 0 ≤ t) × ((k : ℕ) → i ≤ k → k < length xs → t < getD xs k 0)) → Listed xs t
     at (i, le, low, high) =
         let count : at-most xs t ≡ i = at-most-parted xs t i le low high in
         elim (cases-eq t 0) [
           | inl e ↦ elim (cases-eq i 0) [
-            | inl z ↦ absurd (same-not (member xs t) false (ap (λ a. eqb (a % 2) 1) (count ∙ z)) (turns ∙ ap (λ k. not (before xs k)) e))
+            | inl z ↦ absurd (same-not (member xs t) false (ap (λ a. eqb (a % 2) 1) (count ∙ z)) (turns ∙ ap (λ k. not (before (member xs) k)) e))
             | inr some ↦ (i - 1, omega arith, omega (arith, low (i - 1) (omega arith)))
           ]
           | inr ne ↦ elim (cases-lt (t - 1) (getD xs (i - 1) 0)) [
@@ -86,5 +89,25 @@ changes-listed {n} {xs} r t h turns = at (parted r t)
           ]
         ]
 
+-- the marks of a row, where all numbers are known
 pub points-are-changes : Points-are-changes
-points-are-changes n xs r t h = (listed-changes r t h, changes-listed r t h)
+points-are-changes b r t hr ht = (
+  (λ l. subst (λ f. f) (sym same) (listed-changes rise t ht l)),
+  (λ e. changes-listed rise t ht (subst (λ f. f) same e)),
+)
+  where
+    row : List ℕ
+    row = row-at (vec-items (b .points)) (b .count) r
+
+    rise : Rise (b .count) row
+    rise = rows-rise (vec-items (b .points)) (vec-items (b .points)) (b .count) (b .height) (vec-len (b .points)) refl (sym (b .points .ok .0)) (b .fits) (b .top) (b .up) r hr
+
+    seen : (u : ℕ) → u < b .count → ((ltb r (b .height) && ltb u (b .count)) && member row u) ≡ member row u
+    seen u h = ap (λ k. k && member row u) (and-from _ _ (lt-ltb _ _ hr) (lt-ltb _ _ h))
+
+    earlier : (u : ℕ) → u < b .count → before (λ v. (ltb r (b .height) && ltb v (b .count)) && member row v) u ≡ before (member row) u
+    earlier zero h = refl
+    earlier (suc u) h = seen u (omega arith)
+
+    same : Turns (λ v. (ltb r (b .height) && ltb v (b .count)) && member row v) t ≡ Turns (member row) t
+    same = λ i. _≡_ (seen t ht i) (not (earlier t ht i))

@@ -1,9 +1,9 @@
 -- What a write of one word does to the rows. Assumes nothing.
-use mathlib.Core.Path.{_≡_, refl, sym, ap, subst, _∙_, fun-ext}
-use mathlib.Core.Logic.{_⊎_, inl, inr, ⊎-elim, _≢_}
+use mathlib.Core.Path.{_≡_, refl, sym, ap, _∙_}
+use mathlib.Core.Logic.{_⊎_, inl, inr, ⊎-elim}
 use mathlib.Core.Bool.{Bool, true, false, cond, _&&_, _||_}
 use mathlib.Core.List.{List}
-use Prim.Native.Nat.{ℕ, suc, _+_, _-_, _*_, _/_, _%_, _^_, _≤_, _<_, min}
+use Prim.Native.Nat.{ℕ, _+_, _-_, _*_, _/_, _%_, _^_, _≤_, _<_}
 use native.Mathlib.Nat.{div-self, div-eq-of-lt}
 use native.Mathlib.Omega.{arith}
 use borrow.Rule.Slice.PartMut.{putMid}
@@ -11,10 +11,10 @@ use lib.Dec.{eqb, ltb, leb}
 use lib.Bits.{bitOr, bitXor, bitAnd}
 use lib.ListN.{length, getD, set, take, drop, replicate}
 use Rattle.std.proofs.shelf.Bits.{or-shr, or-mod, xor-shr, xor-mod, pow-pos, pow-add, pow-below, shl-shr, one-shl, and-mask}
-use Rattle.std.proofs.shelf.Tests.{cases-order, cases-eq, eq-eqb, ne-eqb, eqb-true, eqb-false, ltb-true, ltb-false, lt-ltb, cases-bool, cond-true, cond-false, and-right, cases-lt}
+use Rattle.std.proofs.shelf.Tests.{cases-order, cases-eq, eq-eqb, ne-eqb, cond-true, cond-false, and-right, cases-lt}
 use Rattle.std.proofs.shelf.Lists.{getD-set-same, getD-set-other, getD-read, getD-take, getD-drop, getD-append-left, getD-append-right, getD-replicate, length-replicate, length-take-le, length-drop}
 use Rattle.std.proofs.shelf.Ways.{tells}
-use Rattle.boards.specs.Meaning.{Rows, with-mark, wiped, blank, known, whole-rows}
+use Rattle.boards.specs.Meaning.{with-mark, wiped, known, whole-rows}
 use Rattle.boards.specs.Bits.{bit, mark-of, bit-rows}
 
 two : (x : ℕ) → x < 2 → (x ≡ 0) ⊎ (x ≡ 1)

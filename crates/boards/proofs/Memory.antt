@@ -1,22 +1,22 @@
 -- Rows in one memory: what a write to one row leaves. Assumes nothing.
-use mathlib.Core.Path.{_≡_, refl, sym, ap, subst, _∙_}
+use mathlib.Core.Path.{_≡_, sym, ap, subst, _∙_}
 use mathlib.Core.Logic.{_⊎_, inl, inr, ⊎-elim}
-use mathlib.Core.Bool.{Bool, true, false, cond, _&&_}
-use mathlib.Core.List.{List, [], _∷_, _++_}
-use Prim.Native.Nat.{ℕ, suc, _+_, _-_, _*_, _/_, _%_, _≤_, _<_, min}
+use mathlib.Core.Bool.{Bool, false, cond, _&&_}
+use mathlib.Core.List.{List}
+use Prim.Native.Nat.{ℕ, _+_, _-_, _*_, _/_, _%_, _≤_, _<_, min}
 use native.Mathlib.Nat.{mul-le-mul-right, add-mul, one-mul, div-mul-le-self}
 use native.Mathlib.Omega.{arith}
 use borrow.Rule.Slice.PartMut.{putMid}
 use lib.Dec.{eqb, ltb, leb}
 use lib.ListN.{length, getD, take, drop, replicate}
 use Rattle.std.specs.Holes.{between}
-use Rattle.std.proofs.shelf.Tests.{cases-lt, cases-eq, cases-order, lt-ltb, le-ltb, lt-leb, and-right, cond-true, cond-false, eq-eqb, ne-eqb}
+use Rattle.std.proofs.shelf.Tests.{cases-lt, cases-eq, cases-order, lt-leb, and-right, cond-false}
 use Rattle.std.proofs.shelf.Lists.{length-replicate, getD-replicate, getD-past, ext-getD}
 use Rattle.std.proofs.shelf.Edits.{length-between, getD-between}
 use Rattle.std.proofs.shelf.Parts.{between-is, take-putMid-below, drop-putMid, between-putMid}
 use Rattle.std.proofs.shelf.Ways.{tells}
 use Rattle.boards.specs.Meaning.{Rows, with-mark, wiped, blank, whole-rows}
-use Rattle.boards.specs.Points.{at-most, member, Rise, row-at, change-rows}
+use Rattle.boards.specs.Points.{member, Rise, row-at, change-rows}
 use Rattle.boards.proofs.Points.{at-most-parted}
 
 -- a part of a list that a write to another part leaves

@@ -1,16 +1,16 @@
 -- A row of change points: what a search finds, and what a point put in or taken out does. Assumes nothing.
-use mathlib.Core.Path.{_≡_, refl, sym, ap, subst, _∙_}
-use mathlib.Core.Logic.{_⊎_, inl, inr, ⊎-elim}
-use mathlib.Core.Bool.{Bool, true, false, cond, not}
+use mathlib.Core.Path.{_≡_, sym, ap, subst, _∙_}
+use mathlib.Core.Logic.{inl, inr}
+use mathlib.Core.Bool.{cond, not}
 use mathlib.Core.List.{List, [], _∷_, _++_}
-use Prim.Native.Nat.{ℕ, zero, suc, _+_, _-_, _%_, _≤_, _<_, min}
+use Prim.Native.Nat.{ℕ, zero, suc, _+_, _-_, _%_, _≤_, _<_}
 use native.Mathlib.Numerals.{add-one}
 use native.Mathlib.Omega.{arith}
-use lib.Dec.{eqb, leb, ltb}
+use lib.Dec.{eqb, leb}
 use lib.ListN.{length, getD, set, take, drop}
 use Rattle.std.specs.Holes.{inserted, removed}
 use Rattle.std.proofs.shelf.Tests.{cases-lt, cases-eq, le-leb, lt-leb, cond-true, cond-false}
-use Rattle.std.proofs.shelf.Lists.{length-set, getD-set-same, getD-set-other, length-append, length-take-le, length-drop, length-push, getD-push, getD-append-left, getD-take, take-append-drop, take-all, take-more, drop-more}
+use Rattle.std.proofs.shelf.Lists.{length-set, getD-set-same, getD-set-other, length-take-le, length-push, getD-push, getD-append-left, getD-take, take-append-drop, take-all, take-more, drop-more}
 use Rattle.std.proofs.shelf.Edits.{length-inserted, length-removed, getD-inserted-below, getD-inserted-at, getD-inserted-above, getD-removed-below, getD-removed-above}
 use Rattle.std.proofs.shelf.Ways.{tells}
 use Rattle.boards.specs.Points.{at-most, member, Rise}

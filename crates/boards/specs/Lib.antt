@@ -3,3 +3,4 @@ pub mod Calls
 pub mod Bits
 pub mod Points
 pub mod Owed
+pub mod Stored

@@ -1,8 +1,8 @@
 -- Rows of change points: n + 1 numbers to a row, rising, and n from there on. Assumes nothing.
 use mathlib.Core.Path.{_≡_}
-use mathlib.Core.Bool.{Bool, false, cond, not}
+use mathlib.Core.Bool.{Bool, cond}
 use mathlib.Core.List.{List, [], _∷_}
-use Prim.Native.Nat.{ℕ, zero, suc, _+_, _*_, _%_, _≤_, _<_}
+use Prim.Native.Nat.{ℕ, _+_, _*_, _%_, _≤_, _<_}
 use lib.Dec.{eqb, leb}
 use lib.ListN.{length, getD}
 use Rattle.std.specs.Holes.{between}
@@ -29,17 +29,3 @@ row-at ps n r = between (r * (n + 1)) (r * (n + 1) + (n + 1)) ps
 
 abbrev pub change-rows : List ℕ → ℕ → ℕ → Rows
 change-rows ps n h = framed n h (λ r. member (row-at ps n r))
-
--- membership just before state t
-abbrev pub before : List ℕ → ℕ → Bool
-before xs zero = false
-before xs (suc t) = member xs t
-
--- t is one of the numbers
-abbrev pub Listed : List ℕ → ℕ → Type 0
-Listed xs t = (i : ℕ) × (i < length xs) × (getD xs i 0 ≡ t)
-
--- the numbers of a row that are below n are exactly the states where membership changes
-abbrev pub Points-are-changes : Type 0
-Points-are-changes = (n : ℕ) (xs : List ℕ) → Rise n xs → (t : ℕ) → t < n →
-    (Listed xs t → member xs t ≡ not (before xs t)) × (member xs t ≡ not (before xs t) → Listed xs t)

@@ -6,7 +6,7 @@ ghost use Prim.Native.Nat.{ℕ, _+_, _-_, _≤_, _<_};
 ghost use lib.Dec.{eqb, leb};
 ghost use lib.ListN.{length, take, replicate};
 ghost use Rattle.std.specs.Holes.{inserted, removed};
-ghost use Rattle.boards.specs.Points.{member, Rise, Points-are-changes};
+ghost use Rattle.boards.specs.Points.{member, Rise};
 
 // Takes the number at `i` out, moves those above it down, and ends with `last`.
 fn take_out(row: &mut [u16], i: usize, last: u16)
@@ -61,7 +61,7 @@ fn flip(row: &mut [u16], n: u16, state: u16)
 {
     match row.binary_search(&state) {
         Ok(i) if row[i + 1] != state + 1 => row[i] = state + 1,
-        Err(i) if row[i] == state + 1 => row[i] = state,
+        Err(above) if row[above] == state + 1 => row[above] = state,
         _ => {
             toggle(row, n, state);
             toggle(row, n, state + 1);
@@ -86,11 +86,4 @@ pub fn clear(row: &mut [u16], n: u16)
     ensures { λ _. ⌜ now (row .exit) ≡ replicate (length (now (row .entry))) n ⌝ }
 {
     row.fill(n);
-}
-
-// The numbers of a row are the states where membership changes.
-pub fn points_are_changes() -> u8
-    ensures { λ _. ⌜ Points-are-changes ⌝ }
-{
-    0
 }

@@ -1,6 +1,5 @@
-use mathlib.Core.Path.{_≡_, refl, sym, ap, subst, _∙_}
 use native.Mathlib.Omega.{arith}
-use Prim.Native.Nat.{ℕ, _+_, _≤_, _<_}
+use Prim.Native.Nat.{_<_}
 use lib.ListN.{length}
 use Rattle.std.specs.shelf.Sorted.{unsigned}
 use Rattle.std.proofs.shelf.Sorted.{searched}
@@ -13,15 +12,15 @@ index-row-i c =
     let h = searched (c .args .row .now) (c .args .state) (Ok (c .in-Ok .i)) (c .in-Ok .ensures tt .located unsigned) (rises (c .pre .rise)) in
     not-last (c .pre .rise) (c .in-Ok .i) (c .args .state) (h .0) (h .1) (c .pre .known)
 
-pub index-row-i-in-Err· : need.index-row-i-in-Err·
-index-row-i-in-Err· c =
-    let h = searched (c .args .row .now) (c .args .state) (Err (c .in-Err .i)) (c .in-Err .ensures tt .located unsigned) (rises (c .pre .rise)) in
-    omega (arith, room (c .pre .rise) (c .in-Err .i) (c .args .state) (omega (arith, c .pre .known)) (h .1), c .pre .rise .long)
+pub index-row-above : need.index-row-above
+index-row-above c =
+    let h = searched (c .args .row .now) (c .args .state) (Err (c .in-Err .above)) (c .in-Err .ensures tt .located unsigned) (rises (c .pre .rise)) in
+    omega (arith, room (c .pre .rise) (c .in-Err .above) (c .args .state) (omega (arith, c .pre .known)) (h .1), c .pre .rise .long)
 
-pub index-row-i-in-Err : need.index-row-i-in-Err
-index-row-i-in-Err c =
-    let h = searched (c .args .row .now) (c .args .state) (Err (c .in-Err .i)) (c .in-Err .ensures tt .located unsigned) (rises (c .pre .rise)) in
-    omega (arith, room (c .pre .rise) (c .in-Err .i) (c .args .state) (omega (arith, c .pre .known)) (h .1), c .pre .rise .long)
+pub index-row-above-in-Err : need.index-row-above-in-Err
+index-row-above-in-Err c =
+    let h = searched (c .args .row .now) (c .args .state) (Err (c .in-Err .above)) (c .in-Err .ensures tt .located unsigned) (rises (c .pre .rise)) in
+    omega (arith, room (c .pre .rise) (c .in-Err .above) (c .args .state) (omega (arith, c .pre .known)) (h .1), c .pre .rise .long)
 
 pub returns-in-Ok : need.returns-in-Ok
 returns-in-Ok c =
@@ -37,11 +36,11 @@ returns-in-Ok c =
 pub returns-in-Err : need.returns-in-Err
 returns-in-Err c =
     let xs = c .args .row .now in
-    let i = c .in-Err .i in
+    let i = c .in-Err .above in
     let s = c .args .state in
     let h = searched xs s (Err i) (c .in-Err .ensures tt .located unsigned) (rises (c .pre .rise)) in
     let lt : i < length xs = omega (arith, room (c .pre .rise) i s (omega (arith, c .pre .known)) (h .1), c .pre .rise .long) in
     record {
-      rise = lowered-rises (c .pre .rise) i s lt (c .if-row-i-2 .taken) (c .pre .known) (h .1);
-      turned = λ t _. lowered-turns xs i s lt (c .if-row-i-2 .taken) t;
+      rise = lowered-rises (c .pre .rise) i s lt (c .if-row-above .taken) (c .pre .known) (h .1);
+      turned = λ t _. lowered-turns xs i s lt (c .if-row-above .taken) t;
     }

@@ -1,11 +1,5 @@
-use mathlib.Core.Path.{_≡_, refl, sym, ap, _∙_}
-use mathlib.Core.Logic.{inl, inr}
-use native.Mathlib.Omega.{arith}
-use Prim.Native.Nat.{ℕ, _+_, _%_, _≤_, _<_}
-use lib.Dec.{eqb}
 use Rattle.std.specs.shelf.Sorted.{unsigned}
 use Rattle.std.proofs.shelf.Sorted.{searched}
-use Rattle.std.proofs.shelf.Ways.{tells}
 use Rattle.std.specs.declared.result.Result.the-variants.{Ok, Err}
 use Rattle.boards.proofs.Points.{rises, found-at, parted-at}
 use Rattle.boards.proofs.line.holds.Needs as need

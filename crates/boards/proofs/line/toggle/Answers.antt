@@ -1,8 +1,5 @@
-use mathlib.Core.Path.{_≡_, refl, sym, ap, subst, _∙_}
-use mathlib.Core.Bool.{cond, not}
+use mathlib.Core.Path.{sym, ap, subst, _∙_}
 use native.Mathlib.Omega.{arith}
-use Prim.Native.Nat.{ℕ, _+_, _%_, _≤_, _<_}
-use lib.Dec.{eqb}
 use Rattle.std.specs.shelf.Sorted.{unsigned}
 use Rattle.std.proofs.shelf.Sorted.{searched}
 use Rattle.std.specs.declared.result.Result.the-variants.{Ok, Err}

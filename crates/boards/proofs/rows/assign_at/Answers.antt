@@ -3,8 +3,8 @@ use mathlib.Core.List.{List}
 use Prim.Native.Nat.{ℕ, _+_}
 use native.Mathlib.Omega.{arith}
 use lib.ListN.{length}
-use Rattle.boards.specs.Points.{row-at, Rise, member}
-use Rattle.boards.proofs.Memory.{row-here, row-other, length-row}
+use Rattle.boards.specs.Points.{Rise, member}
+use Rattle.boards.proofs.Memory.{row-here, row-other}
 use Rattle.boards.proofs.rows.assign_at.Needs as need
 
 pub returns : need.returns

@@ -1,5 +1,5 @@
 use mathlib.Core.Path.{_≡_, sym, ap, _∙_}
-use Prim.Native.Nat.{ℕ, _+_}
+use Prim.Native.Nat.{_+_}
 use Rattle.std.specs.Of.Vec.{vec-items, vec-len}
 use Rattle.boards.specs.Meaning.{blank, whole-rows}
 use Rattle.boards.proofs.Memory.{new-height, new-rows, new-rise, rows-blank, top-from, up-from}
