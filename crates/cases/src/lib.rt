@@ -1,0 +1,6 @@
+// A case: goals of a system are entered, settled and asked about, and planned for.
+pub mod advice;
+pub mod calls;
+pub mod case;
+pub mod sheet;
+pub mod stop;
