@@ -2,5 +2,6 @@
 pub mod advice;
 pub mod calls;
 pub mod case;
+mod rows;
 pub mod sheet;
 pub mod stop;
