@@ -67,3 +67,8 @@ Tries M out m call (Err Memory) m′ = m′ ≡ m
 abbrev pub Admits : Meaning → Model → Word → Result Goal Fault → Type 0
 Admits M m x (Ok φ) = (φ ≡ goal-of x) × (length (m .goals) < 64) × ((qs : List Play) → first (refusals M (world m qs) (Enter x)) ≡ None)
 Admits M m x (Err e) = (qs : List Play) → (first (refusals M (world m qs) (Enter x)) ≡ Some (e .number)) × (e ≡ fault (e .number))
+
+-- The first test of a call that holds, or none, among any plays of which `out` are under way.
+abbrev pub Permits : Meaning → ℕ → Model → Call → Result (Unit {0}) Fault → Type 0
+Permits M out m call (Ok x) = (qs : List Play) → length qs ≡ out → first (refusals M (world m qs) call) ≡ None
+Permits M out m call (Err e) = (qs : List Play) → length qs ≡ out → (first (refusals M (world m qs) call) ≡ Some (e .number)) × (e ≡ fault (e .number))

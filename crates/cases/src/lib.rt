@@ -3,5 +3,6 @@ pub mod advice;
 pub mod calls;
 pub mod case;
 mod rows;
+pub mod settle;
 pub mod sheet;
 pub mod stop;
