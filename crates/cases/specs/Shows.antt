@@ -16,11 +16,11 @@ use Rattle.game.specs.declared.goal.Goal.{Goal}
 use Rattle.game.specs.declared.goal.Word.{Word}
 use Rattle.boards.specs.Meaning.{Rows}
 use Rattle.plans.specs.Drawing.{granted-in, rank-in, choice-in}
-use Rattle.law.specs.Worlds.{Plan, Model, Play, World}
+use Rattle.law.specs.Worlds.{Plan, Model, Play, World, goal-at}
 use Rattle.law.specs.Refusals.{refusals, first}
 use Rattle.law.specs.Steps.{Step, fault}
 use Rattle.law.specs.declared.call.Call.{Call}
-use Rattle.law.specs.declared.call.Call.the-variants.{Enter}
+use Rattle.law.specs.declared.call.Call.the-variants.{Enter, Settle}
 use Rattle.law.specs.declared.call.Answer.{Answer}
 use Rattle.law.specs.declared.call.Answer.the-variants.{Number, Done, Told, Entry, Refused}
 use Rattle.cases.specs.declared.sheet.Sheet.{Sheet}
@@ -72,3 +72,8 @@ Admits M m x (Err e) = (qs : List Play) → (first (refusals M (world m qs) (Ent
 abbrev pub Permits : Meaning → ℕ → Model → Call → Result (Unit {0}) Fault → Type 0
 Permits M out m call (Ok x) = (qs : List Play) → length qs ≡ out → first (refusals M (world m qs) call) ≡ None
 Permits M out m call (Err e) = (qs : List Play) → length qs ≡ out → (first (refusals M (world m qs) call) ≡ Some (e .number)) × (e ≡ fault (e .number))
+
+-- The first test of settle that holds, or the lowest unsettled goal.
+abbrev pub Awaits : Meaning → ℕ → Model → Result Goal Fault → Type 0
+Awaits M out m (Ok φ) = (φ ≡ goal-at m (m .settled)) × (m .settled < length (m .goals)) × Permits M out m Settle (Ok tt)
+Awaits M out m (Err e) = Permits M out m Settle (Err e)
