@@ -2,6 +2,7 @@
 pub mod advice;
 pub mod calls;
 pub mod case;
+pub mod plan;
 mod rows;
 pub mod settle;
 pub mod sheet;
