@@ -1,0 +1,4 @@
+// Agents' systems and listed games.
+pub mod agent;
+pub mod agents;
+pub mod line;
