@@ -1,4 +1,4 @@
--- `all-of` by places.
+-- `all-of` by places. Assumes nothing.
 use mathlib.Core.Path.{_≡_, refl, ap, subst}
 use Rattle.std.proofs.shelf.Lists.{getD-default}
 use mathlib.Core.Bool.{Bool, true, false, _&&_}
