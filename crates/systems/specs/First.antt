@@ -1,6 +1,6 @@
 -- The first element of a list that passes a test. Assumes nothing.
 use mathlib.Core.Path.{_≡_}
-use mathlib.Core.Bool.{Bool, true, false, cond, _&&_}
+use mathlib.Core.Bool.{Bool, true, false, cond, _&&_, _||_}
 use mathlib.Core.List.{List, [], _∷_}
 use Prim.Native.Nat.{ℕ, _<_}
 use lib.ListN.{length}
@@ -26,4 +26,4 @@ all-of p (x ∷ xs) = p x && all-of p xs
 -- Some element passes.
 abbrev pub some-of : {X : Type 0} → (X → Bool) → List X → Bool
 some-of p [] = false
-some-of p (x ∷ xs) = cond (p x) true (some-of p xs)
+some-of p (x ∷ xs) = p x || some-of p xs

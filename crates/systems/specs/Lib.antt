@@ -4,4 +4,6 @@ pub mod Joint
 pub mod Product
 pub mod Agents
 pub mod AgentsMeaning
+pub mod Empty
+pub mod Lists
 pub mod lemmas

@@ -9,8 +9,8 @@ use lib.ListN.{length, getD}
 use Rattle.std.specs.Places.{Every, At}
 use Rattle.std.specs.shelf.Lists.{All}
 use Rattle.std.proofs.shelf.Elements.{all-from-every}
-use Rattle.std.proofs.shelf.Tests.{and-from, and-left, and-right, and-parts}
-use Rattle.systems.specs.First.{all-of}
+use Rattle.std.proofs.shelf.Tests.{and-from, and-left, and-right, and-parts, or-parts}
+use Rattle.systems.specs.First.{all-of, some-of}
 
 module _ {X : Type 0} (p : X → Bool) where
   from-all : (xs : List X) → All (λ x. p x ≡ true) xs → all-of p xs ≡ true
@@ -29,6 +29,11 @@ module _ {X : Type 0} (p : X → Bool) where
   all-of-at [] i d lt h = absurd (not-suc-le-zero lt)
   all-of-at (x ∷ xs) zero d lt h = and-parts (p x) (all-of p xs) h .0
   all-of-at (x ∷ xs) (suc i) d lt h = all-of-at xs i d (le-of-suc-le-suc lt) (and-parts (p x) (all-of p xs) h .1)
+
+  pub none-at : (xs : List X) (i : ℕ) (d : X) → i < length xs → some-of p xs ≡ false → p (getD xs i d) ≡ false
+  none-at [] i d lt h = absurd (not-suc-le-zero lt)
+  none-at (x ∷ xs) zero d lt h = or-parts (p x) (some-of p xs) h .0
+  none-at (x ∷ xs) (suc i) d lt h = none-at xs i d (le-of-suc-le-suc lt) (or-parts (p x) (some-of p xs) h .1)
 
 -- an element that was read, at any default
 pub at-item : {X : Type 0} (P : X → Type 0) (xs : List X) (i : ℕ) (e : X) → i < length xs → P (getD xs i e) → At P xs i
