@@ -6,4 +6,6 @@ pub mod Agents
 pub mod AgentsMeaning
 pub mod Empty
 pub mod Lists
+pub mod Table
+pub mod TableMeaning
 pub mod lemmas

@@ -5,3 +5,5 @@ pub mod Joints
 pub mod Same
 pub mod AgentsLawful
 pub mod GameLawful
+pub mod Tabled
+pub mod TableLawful
