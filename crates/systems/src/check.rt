@@ -2,8 +2,7 @@
 ghost use mathlib.Core.Path.{_≡_};
 ghost use mathlib.Core.Bool.{true};
 ghost use Prim.Native.Nat.{_<_};
-ghost use lib.Dec.{ltb};
-ghost use Rattle.systems.specs.First.{First as FirstOf, all-of, some-of};
+ghost use Rattle.systems.specs.First.{First as FirstOf, some-of};
 ghost use Rattle.systems.specs.Lists.{shaped as well-shaped, bad-mask, bad-mark, bad-move, begins, Checked};
 use crate::line::MoveLine;
 use crate::lists::Lists;

@@ -1,5 +1,5 @@
 use mathlib.Core.Path.{_≡_, sym}
-use mathlib.Core.Bool.{true, false, not}
+use mathlib.Core.Bool.{false, not}
 use native.Mathlib.Omega.{arith}
 use lib.Dec.{ltb}
 use Rattle.std.proofs.shelf.Elements.{every-more}

@@ -1,7 +1,6 @@
 use mathlib.Core.Path.{_≡_, sym}
 use mathlib.Core.Bool.{false}
 use native.Mathlib.Omega.{arith}
-use lib.Dec.{eqb}
 use Rattle.std.proofs.shelf.Elements.{every-more}
 use Rattle.std.proofs.shelf.Tests.{eq-eqb, ne-eqb, not-from-true, not-from-false}
 use Rattle.std.specs.declared.option.Option.the-variants.{None}

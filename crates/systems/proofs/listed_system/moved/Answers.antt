@@ -1,5 +1,4 @@
 use mathlib.Core.Path.{sym}
-use mathlib.Core.Bool.{Bool}
 use Rattle.systems.specs.declared.line.MoveLine.{MoveLine}
 use Rattle.systems.specs.Fits.{move-fits}
 use Rattle.systems.specs.lemmas.Given.{given-none, given-some}

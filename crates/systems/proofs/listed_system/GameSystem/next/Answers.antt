@@ -1,10 +1,10 @@
 use mathlib.Core.Path.{_≡_, sym, ap, _∙_}
-use mathlib.Core.Bool.{Bool, true, false, cond}
+use mathlib.Core.Bool.{Bool, true, false}
 use Prim.Native.Nat.{ℕ, _+_, _-_, _*_, _^_, _<_}
 use native.Mathlib.Omega.{arith}
-use lib.ListN.{getD, length}
+use lib.ListN.{getD}
 use Rattle.std.proofs.shelf.Tests.{cond-true, cond-false}
-use Rattle.game.specs.Meaning.{digit, actions}
+use Rattle.game.specs.Meaning.{actions}
 use Rattle.systems.specs.First.{given}
 use Rattle.systems.specs.Fits.{bit, move-fits}
 use Rattle.systems.specs.Joint.{all-below, joint}
