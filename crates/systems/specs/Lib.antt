@@ -1,0 +1,11 @@
+pub mod First
+pub mod Fits
+pub mod Joint
+pub mod Product
+pub mod Agents
+pub mod AgentsMeaning
+pub mod Empty
+pub mod Lists
+pub mod Table
+pub mod TableMeaning
+pub mod lemmas
