@@ -21,5 +21,5 @@ pub returns-in-Continue-d : need.returns-in-Continue-d
 returns-in-Continue-d g c =
     made-weaker (c .draw-in-Until .result) _ _
     (λ v. drawn-until _ _ _ _ (c .in-Until .c) (c .in-Until .d) (set-in (c .as-slice-in-Until .result .now)) (set-in (c .as-slice-in-Until-2 .result .now)) (vec-items v) (c .in-Until .is)
-      (ap set-in (c .as-slice-in-Until .ensures .value) ∙ c .in-Continue-c-3 .ensures tt) (ap set-in (c .as-slice-in-Until-2 .ensures .value) ∙ c .in-Continue-d .ensures tt))
+    (ap set-in (c .as-slice-in-Until .ensures .value) ∙ c .in-Continue-c-3 .ensures tt) (ap set-in (c .as-slice-in-Until-2 .ensures .value) ∙ c .in-Continue-d .ensures tt))
     (c .draw-in-Until .ensures .drawn)
