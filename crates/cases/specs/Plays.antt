@@ -10,7 +10,7 @@ use Rattle.std.specs.declared.result.Result.{Result}
 use Rattle.std.specs.declared.result.Result.the-variants.{Ok, Err}
 use Rattle.game.specs.Meaning.{Meaning}
 use Rattle.game.specs.declared.fault.Fault.{Fault}
-use Rattle.law.specs.Worlds.{Model, Play, to-move, to-reply}
+use Rattle.law.specs.Worlds.{Model, Play, to-move, to-reply, met}
 use Rattle.law.specs.Steps.{Step}
 use Rattle.law.specs.declared.call.Call.the-variants.{Begin, Announce, Tell, End}
 use Rattle.law.specs.declared.call.Answer.the-variants.{Done, Entry, Outcome as Outcome′, Refused}
@@ -55,6 +55,10 @@ Told-at M m qs i start told t b (Err x) = Step M (world m qs) (Tell i b) (Refuse
 
 abbrev pub Tells : Meaning → Model → AwaitingReply → ℕ → Result AwaitingMove Untold → Type 0
 Tells M m t b r = (qs : List Play) (i start : ℕ) (told : List (ℕ × ℕ)) → nth qs i ≡ Some (replying start told t) → Told-at M m qs i start told t b r
+
+-- The steps of a play, and whether it is met.
+abbrev pub Reached : Model → Token → Outcome → Type 0
+Reached m t x = (start : ℕ) (told : List (ℕ × ℕ)) → (x .steps ≡ playing start told t .steps) × (x .met ≡ met m (playing start told t))
 
 -- End takes the play out of those under way.
 abbrev pub Ended-at : Meaning → Model → List Play → ℕ → ℕ → List (ℕ × ℕ) → Token → ℕ → Result Outcome Unended → ℕ → Type 0

@@ -53,6 +53,10 @@ abbrev pub answered : Result Bool Fault → Answer
 answered (Ok x) = Told x
 answered (Err e) = Refused e
 
+abbrev pub finished : Result (Unit {0}) Fault → Answer
+finished (Ok x) = Done
+finished (Err e) = Refused e
+
 abbrev pub advised : Result Advice Fault → Answer
 advised (Ok x) = Entry (x .rank) (x .choice)
 advised (Err e) = Refused e
