@@ -1,0 +1,22 @@
+-- A call served on a case, with the tokens of the plays under way. Assumes nothing.
+use mathlib.Core.List.{List, [], _∷_}
+use mathlib.Core.Path.{_≡_}
+use Rattle.game.specs.Meaning.{Meaning}
+use Rattle.law.specs.Worlds.{Model, Play}
+use Rattle.law.specs.Steps.{Step}
+use Rattle.law.specs.declared.call.Call.{Call}
+use Rattle.law.specs.declared.call.Answer.{Answer}
+use Rattle.cases.specs.declared.outcome.Play.{Play as Token}
+use Rattle.cases.specs.Shows.{world}
+use Rattle.cases.specs.Plays.{playing}
+
+-- The tokens are those of the plays, in their order.
+abbrev pub Seated : List Token → List Play → Type 0
+Seated [] [] = Unit {0}
+Seated [] (q ∷ qs) = ⊥
+Seated (t ∷ ts) [] = ⊥
+Seated (t ∷ ts) (q ∷ qs) = (q ≡ playing (q .start) (q .told) t) × Seated ts qs
+
+-- Whatever plays the tokens are of, the call is a step, and the tokens are then those of the plays after it.
+abbrev pub Served : Meaning → Model → List Token → Call → Answer → Model → List Token → Type 0
+Served M m ts call r m′ ts′ = (qs : List Play) → Seated ts qs → (qs′ : List Play) × Step M (world m qs) call r (world m′ qs′) × Seated ts′ qs′
