@@ -1,6 +1,10 @@
 -- A call served on a case, with the tokens of the plays under way. Assumes nothing.
 use mathlib.Core.List.{List, [], _∷_}
 use mathlib.Core.Path.{_≡_}
+use Prim.Native.Nat.{ℕ}
+use lib.ListN.{set}
+use Rattle.std.specs.Finite.{nth}
+use Rattle.std.specs.declared.option.Option.the-variants.{Some}
 use Rattle.game.specs.Meaning.{Meaning}
 use Rattle.law.specs.Worlds.{Model, Play}
 use Rattle.law.specs.Steps.{Step}
@@ -20,3 +24,9 @@ Seated (t ∷ ts) (q ∷ qs) = (q ≡ playing (q .start) (q .told) t) × Seated 
 -- Whatever plays the tokens are of, the call is a step, and the tokens are then those of the plays after it.
 abbrev pub Served : Meaning → Model → List Token → Call → Answer → Model → List Token → Type 0
 Served M m ts call r m′ ts′ = (qs : List Play) → Seated ts qs → (qs′ : List Play) × Step M (world m qs) call r (world m′ qs′) × Seated ts′ qs′
+
+-- A call on the play of a token, wherever it stands: a step, after which the play is that of the token t′.
+abbrev pub Turns : Meaning → Model → Token → (ℕ → Call) → Answer → Token → Type 0
+Turns M m t call r t′ =
+    (qs : List Play) (i start : ℕ) (told : List (ℕ × ℕ)) → nth qs i ≡ Some (playing start told t) →
+    (told′ : List (ℕ × ℕ)) × Step M (world m qs) (call i) r (world m (set qs i (playing start told′ t′)))

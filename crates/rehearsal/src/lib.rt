@@ -1,2 +1,4 @@
 // Lists of calls run on a case, and the law over them.
-pub mod plain;
+mod plain;
+mod tokens;
+mod turns;
