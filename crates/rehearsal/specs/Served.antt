@@ -2,13 +2,14 @@
 use mathlib.Core.List.{List, [], _∷_}
 use mathlib.Core.Path.{_≡_}
 use Prim.Native.Nat.{ℕ}
-use lib.ListN.{set}
+use lib.ListN.{length, set}
 use Rattle.std.specs.Finite.{nth}
-use Rattle.std.specs.declared.option.Option.the-variants.{Some}
+use Rattle.std.specs.declared.option.Option.the-variants.{Some, None}
 use Rattle.game.specs.Meaning.{Meaning}
 use Rattle.law.specs.Worlds.{Model, Play}
 use Rattle.law.specs.Steps.{Step}
 use Rattle.law.specs.declared.call.Call.{Call}
+use Rattle.law.specs.declared.call.Call.the-variants.{End}
 use Rattle.law.specs.declared.call.Answer.{Answer}
 use Rattle.cases.specs.declared.outcome.Play.{Play as Token}
 use Rattle.cases.specs.Shows.{world}
@@ -30,3 +31,7 @@ abbrev pub Turns : Meaning → Model → Token → (ℕ → Call) → Answer →
 Turns M m t call r t′ =
     (qs : List Play) (i start : ℕ) (told : List (ℕ × ℕ)) → nth qs i ≡ Some (playing start told t) →
     (told′ : List (ℕ × ℕ)) × Step M (world m qs) (call i) r (world m (set qs i (playing start told′ t′)))
+
+-- The answer to the end of a play that is not there, where so many are under way.
+abbrev pub EndsNothing : Meaning → Model → ℕ → Answer → Type 0
+EndsNothing M m count r = (qs : List Play) (i : ℕ) → length qs ≡ count → nth qs i ≡ None → Step M (world m qs) (End i) r (world m qs)
