@@ -23,6 +23,7 @@ use Rattle.cases.specs.declared.outcome.Play.the-variants.{Move, Reply}
 use Rattle.cases.specs.Shows.{world}
 use Rattle.cases.specs.Plays.{playing}
 use Rattle.rehearsal.specs.Served.{Seated, Served, Turns}
+use Rattle.rehearsal.proofs.Turning.{set-nth}
 
 pub seated-length : (ts : List Token) (qs : List Play) → Seated ts qs → length qs ≡ length ts
 seated-length [] [] h = refl
@@ -92,3 +93,8 @@ begun-few M m qs s w step = go (first (refusals M (world m qs) (Begin s))) refl 
     go : (o : Option ℕ) → first (refusals M (world m qs) (Begin s)) ≡ o → Ruled M (world m qs) (Begin s) o Done w → length qs < 8
     go (Some n) e (r, same) = let z : _≡_ {A = ℕ} 0 1 = cc in absurd (omega arith)
     go None e h = leb-false _ _ (passes (refusals M (world m qs) (Begin s)) e .1 .1 .1 .1 .0)
+
+-- another token of the same play
+pub seated-swap : (ts : List Token) (qs : List Play) (i : ℕ) (t : Token) (q : Play) → Seated ts qs → nth qs i ≡ Some q → playing (q .start) (q .told) t ≡ q → Seated (set ts i t) qs
+seated-swap ts qs i t q h at same =
+    subst (Seated (set ts i t)) (ap (set qs i) same ∙ set-nth qs i q at) (seated-set ts qs i (q .start) (q .told) t h)
