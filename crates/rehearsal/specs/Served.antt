@@ -7,7 +7,7 @@ use Rattle.std.specs.Finite.{nth}
 use Rattle.std.specs.declared.option.Option.the-variants.{Some, None}
 use Rattle.game.specs.Meaning.{Meaning}
 use Rattle.law.specs.Worlds.{Model, Play}
-use Rattle.law.specs.Steps.{Step}
+use Rattle.law.specs.Steps.{Step, Run}
 use Rattle.law.specs.declared.call.Call.{Call}
 use Rattle.law.specs.declared.call.Call.the-variants.{End}
 use Rattle.law.specs.declared.call.Answer.{Answer}
@@ -35,3 +35,7 @@ Turns M m t call r t′ =
 -- The answer to the end of a play that is not there, where so many are under way.
 abbrev pub EndsNothing : Meaning → Model → ℕ → Answer → Type 0
 EndsNothing M m count r = (qs : List Play) (i : ℕ) → length qs ≡ count → nth qs i ≡ None → Step M (world m qs) (End i) r (world m qs)
+
+-- A list of calls served: a run with these answers, whatever plays the tokens are of.
+abbrev pub Ran : Meaning → Model → List Token → List Call → List Answer → Model → List Token → Type 0
+Ran M m ts cs rs m′ ts′ = (qs : List Play) → Seated ts qs → (qs′ : List Play) × Run M (world m qs) cs rs (world m′ qs′) × Seated ts′ qs′

@@ -1,6 +1,6 @@
 // Calls that name no play.
 ghost use mathlib.Core.Path.{_≡_};
-ghost use Rattle.std.specs.Vec.{made};
+ghost use Rattle.std.specs.Results.{Cases};
 ghost use Rattle.cases.specs.Shows.{model, system-of, out-of, Calls, numbered, answered, advised, finished};
 ghost use mathlib.Core.Bool.{true};
 ghost use Rattle.rehearsal.specs.Calling.{plain, trial};
@@ -65,7 +65,7 @@ fn tried(r: Result<(), Stop>) -> Result<Answer, AllocError>
 // A call that names no play.
 pub(crate) fn serve_plain<S: System, B: Board>(heap: Global, case: &mut Case<S, B>, call: Call) -> Result<Answer, AllocError>
     requires { ⌜ plain call ≡ true ⌝ }
-    ensures steps { λ r. ⌜ made r (λ a. Calls (S·System .means (system-of (now (case .entry)))) (out-of (now (case .entry))) (model (B·Board .shows) (now (case .entry))) call a (model (B·Board .shows) (now (case .exit)))) ⌝ }
+    ensures steps { λ r. ⌜ Cases r (λ a. Calls (S·System .means (system-of (now (case .entry)))) (out-of (now (case .entry))) (model (B·Board .shows) (now (case .entry))) call a (model (B·Board .shows) (now (case .exit)))) (λ _. model (B·Board .shows) (now (case .exit)) ≡ model (B·Board .shows) (now (case .entry))) ⌝ }
     ensures same { λ r. ⌜ system-of (now (case .exit)) ≡ system-of (now (case .entry)) ⌝ }
     ensures out { λ r. ⌜ out-of (now (case .exit)) ≡ out-of (now (case .entry)) ⌝ }
 {
