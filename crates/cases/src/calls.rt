@@ -47,6 +47,7 @@ pub(crate) fn goal_at(goals: &Vec<Goal>, f: usize) -> Goal
 }
 
 // A system and a board on which no case could be opened for want of memory.
+#[derive(Drop)]
 pub struct Unopened<S, B> {
     pub system: S,
     pub board: B,

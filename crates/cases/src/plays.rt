@@ -68,30 +68,57 @@ impl<S: System, B: Board> Case<S, B> {
         ensures { λ r. ⌜ Announces (S·System .means (now (self .entry) .system)) (model (B·Board .shows) (now (self .entry))) play r ⌝ }
     {
         if self.is_unfit() {
-            return Err(Unannounced { fault: refusal(20), play });
+            return Err(Unannounced {
+                fault: refusal(20),
+                play,
+            });
         }
         let Some(sheet) = &self.sheet else {
-            return Err(Unannounced { fault: refusal(35), play });
+            return Err(Unannounced {
+                fault: refusal(35),
+                play,
+            });
         };
         if play.state >= self.system.states() {
-            return Err(Unannounced { fault: refusal(33), play });
+            return Err(Unannounced {
+                fault: refusal(33),
+                play,
+            });
         }
-        if is_met(&self.board, goal_at(&self.goals, sheet.goal), play.state, play.steps) {
-            return Err(Unannounced { fault: refusal(43), play });
+        if is_met(
+            &self.board,
+            goal_at(&self.goals, sheet.goal),
+            play.state,
+            play.steps,
+        ) {
+            return Err(Unannounced {
+                fault: refusal(43),
+                play,
+            });
         }
         let entry = entry_at(sheet.entries.as_slice(), play.state);
         if !entry.granted {
-            return Err(Unannounced { fault: refusal(36), play });
+            return Err(Unannounced {
+                fault: refusal(36),
+                play,
+            });
         }
         if play.steps >= 65535 {
-            return Err(Unannounced { fault: refusal(42), play });
+            return Err(Unannounced {
+                fault: refusal(42),
+                play,
+            });
         }
         let AwaitingMove { state, steps } = play;
         let choice = entry.choice as usize;
         Ok(Announced {
             rank: entry.rank as usize,
             choice,
-            play: AwaitingReply { state, steps, choice },
+            play: AwaitingReply {
+                state,
+                steps,
+                choice,
+            },
         })
     }
 
@@ -110,18 +137,34 @@ impl<S: System, B: Board> Case<S, B> {
         ensures { λ r. ⌜ Tells (S·System .means (now (self .entry) .system)) (model (B·Board .shows) (now (self .entry))) play reply r ⌝ }
     {
         if self.is_unfit() {
-            return Err(Untold { fault: refusal(20), play });
+            return Err(Untold {
+                fault: refusal(20),
+                play,
+            });
         }
         if self.sheet.is_none() {
-            return Err(Untold { fault: refusal(35), play });
+            return Err(Untold {
+                fault: refusal(35),
+                play,
+            });
         }
         if play.state >= self.system.states() {
-            return Err(Untold { fault: refusal(33), play });
+            return Err(Untold {
+                fault: refusal(33),
+                play,
+            });
         }
         if !is_reply(&self.system, self.group(), play.state, reply) {
-            return Err(Untold { fault: refusal(38), play });
+            return Err(Untold {
+                fault: refusal(38),
+                play,
+            });
         }
-        let AwaitingReply { state, steps, choice } = play;
+        let AwaitingReply {
+            state,
+            steps,
+            choice,
+        } = play;
         Ok(AwaitingMove {
             state: land(&self.system, state, choice, reply),
             steps: steps + 1,
@@ -135,10 +178,16 @@ impl<S: System, B: Board> Case<S, B> {
         ensures same { λ r. ⌜ now (self .exit) .system ≡ now (self .entry) .system ⌝ }
     {
         if self.is_unfit() {
-            return Err(Unended { fault: refusal(20), play });
+            return Err(Unended {
+                fault: refusal(20),
+                play,
+            });
         }
         if self.out == 0 {
-            return Err(Unended { fault: refusal(41), play });
+            return Err(Unended {
+                fault: refusal(41),
+                play,
+            });
         }
         self.out -= 1;
         Ok(self.outcome(play))
@@ -154,7 +203,11 @@ impl<S: System, B: Board> Case<S, B> {
                 (state, steps)
             }
             Play::Reply(play) => {
-                let AwaitingReply { state, steps, choice: _ } = play;
+                let AwaitingReply {
+                    state,
+                    steps,
+                    choice: _,
+                } = play;
                 (state, steps)
             }
         };

@@ -31,9 +31,12 @@ pub ran-more : {S : Type 0} (means : S → Meaning) (x y : S) (m m₁ m₂ : Mod
 ran-more means x y m m₁ m₂ ts ts₁ ts₂ cs i d rs rs′ r same less ran served e qs h =
     let M = means y in
     let (qs₁, run, h₁) = ran qs h in
-    let (qs₂, step, h₂) = subst (λ z. Served (means z) m₁ ts₁ (getD cs i d) r m₂ ts₂) same served qs₁ h₁ in
-    (qs₂, subst (λ l. Run M (world m qs) l rs′ (world m₂ qs₂)) (sym (take-more cs i d less)) (subst (λ l. Run M (world m qs) (take i cs ++ getD cs i d ∷ []) l (world m₂ qs₂)) (sym e)
-      (run-more M (world m qs) (world m₁ qs₁) (world m₂ qs₂) (getD cs i d) r (take i cs) rs run step)), h₂)
+    let (qs₂, step, h₂) = subst (λ z. Served (means z) m₁ ts₁ (getD cs i d) r m₂ ts₂) same served qs₁ h₁ in (
+      qs₂,
+      subst (λ l. Run M (world m qs) l rs′ (world m₂ qs₂)) (sym (take-more cs i d less)) (subst (λ l. Run M (world m qs) (take i cs ++ getD cs i d ∷ []) l (world m₂ qs₂)) (sym e)
+          (run-more M (world m qs) (world m₁ qs₁) (world m₂ qs₂) (getD cs i d) r (take i cs) rs run step)),
+      h₂,
+    )
 
 pub ran-all : (M : Meaning) (m m′ : Model) (ts ts′ : List Token) (cs : List Call) (n : ℕ) (rs : List Answer) → length cs ≤ n → Ran M m ts (take n cs) rs m′ ts′ → Ran M m ts cs rs m′ ts′
 ran-all M m m′ ts ts′ cs n rs le h = subst (λ l. Ran M m ts l rs m′ ts′) (take-all n cs le) h

@@ -26,4 +26,4 @@ plain (Strike k) = true
 abbrev pub trial : Result (Unit {0}) Stop → Result Answer AllocError
 trial (Ok x) = Ok Done
 trial (Err (Refusal e)) = Ok (Refused e)
-trial (Err Memory) = Err (record { })
+trial (Err Memory) = Err (record {})

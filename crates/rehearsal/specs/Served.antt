@@ -6,7 +6,7 @@ use lib.ListN.{length, set}
 use Rattle.std.specs.Finite.{nth}
 use Rattle.std.specs.declared.option.Option.the-variants.{Some, None}
 use Rattle.game.specs.Meaning.{Meaning}
-use Rattle.law.specs.Worlds.{Model, Play}
+use Rattle.law.specs.Worlds.{Model, Play, World}
 use Rattle.law.specs.Steps.{Step, Run}
 use Rattle.law.specs.declared.call.Call.{Call}
 use Rattle.law.specs.declared.call.Call.the-variants.{End}
@@ -39,3 +39,7 @@ EndsNothing M m count r = (qs : List Play) (i : ℕ) → length qs ≡ count →
 -- A list of calls served: a run with these answers, whatever plays the tokens are of.
 abbrev pub Ran : Meaning → Model → List Token → List Call → List Answer → Model → List Token → Type 0
 Ran M m ts cs rs m′ ts′ = (qs : List Play) → Seated ts qs → (qs′ : List Play) × Run M (world m qs) cs rs (world m′ qs′) × Seated ts′ qs′
+
+-- A list of calls from a case without plays: a run to some world.
+abbrev pub Rehearsed : Meaning → Model → List Call → List Answer → Type 0
+Rehearsed M m cs rs = (w : World) × Run M (world m []) cs rs w

@@ -20,7 +20,11 @@ use game::fault::Layer;
 use game::system::System;
 use law::call::Answer;
 
-pub(crate) fn serve_begin<S: System, B: Board>(case: &mut Case<S, B>, plays: &mut Vec<Play>, state: usize) -> Answer
+pub(crate) fn serve_begin<S: System, B: Board>(
+    case: &mut Case<S, B>,
+    plays: &mut Vec<Play>,
+    state: usize,
+) -> Answer
     requires counted { ⌜ out-of (now case) ≡ vec-len (now plays) ⌝ }
     requires room { ⌜ 8 ≤ vec-cap (now plays) ⌝ }
     ensures served { λ r. ⌜ Served (S·System .means (system-of (now (case .entry)))) (model (B·Board .shows) (now (case .entry))) (vec-items (now (plays .entry))) (Begin state) r (model (B·Board .shows) (now (case .exit))) (vec-items (now (plays .exit))) ⌝ }
@@ -37,7 +41,11 @@ pub(crate) fn serve_begin<S: System, B: Board>(case: &mut Case<S, B>, plays: &mu
     }
 }
 
-pub(crate) fn serve_announce<S: System, B: Board>(case: &Case<S, B>, plays: &mut Vec<Play>, i: usize) -> Answer
+pub(crate) fn serve_announce<S: System, B: Board>(
+    case: &Case<S, B>,
+    plays: &mut Vec<Play>,
+    i: usize,
+) -> Answer
     requires room { ⌜ 8 ≤ vec-cap (now plays) ⌝ }
     ensures served { λ r. ⌜ Served (S·System .means (system-of (now (case .entry)))) (model (B·Board .shows) (now (case .entry))) (vec-items (now (plays .entry))) (Announce i) r (model (B·Board .shows) (now (case .entry))) (vec-items (now (plays .exit))) ⌝ }
     ensures counted { λ r. ⌜ vec-len (now (plays .exit)) ≡ vec-len (now (plays .entry)) ⌝ }
@@ -52,7 +60,12 @@ pub(crate) fn serve_announce<S: System, B: Board>(case: &Case<S, B>, plays: &mut
     answer
 }
 
-pub(crate) fn serve_tell<S: System, B: Board>(case: &Case<S, B>, plays: &mut Vec<Play>, i: usize, reply: usize) -> Answer
+pub(crate) fn serve_tell<S: System, B: Board>(
+    case: &Case<S, B>,
+    plays: &mut Vec<Play>,
+    i: usize,
+    reply: usize,
+) -> Answer
     requires room { ⌜ 8 ≤ vec-cap (now plays) ⌝ }
     ensures served { λ r. ⌜ Served (S·System .means (system-of (now (case .entry)))) (model (B·Board .shows) (now (case .entry))) (vec-items (now (plays .entry))) (Tell i reply) r (model (B·Board .shows) (now (case .entry))) (vec-items (now (plays .exit))) ⌝ }
     ensures counted { λ r. ⌜ vec-len (now (plays .exit)) ≡ vec-len (now (plays .entry)) ⌝ }
@@ -90,7 +103,11 @@ fn end_nothing<S: System, B: Board>(case: &Case<S, B>, count: usize) -> Answer
     Answer::Idle
 }
 
-pub(crate) fn serve_end<S: System, B: Board>(case: &mut Case<S, B>, plays: &mut Vec<Play>, i: usize) -> Answer
+pub(crate) fn serve_end<S: System, B: Board>(
+    case: &mut Case<S, B>,
+    plays: &mut Vec<Play>,
+    i: usize,
+) -> Answer
     requires counted { ⌜ out-of (now case) ≡ vec-len (now plays) ⌝ }
     requires room { ⌜ 8 ≤ vec-cap (now plays) ⌝ }
     ensures served { λ r. ⌜ Served (S·System .means (system-of (now (case .entry)))) (model (B·Board .shows) (now (case .entry))) (vec-items (now (plays .entry))) (End i) r (model (B·Board .shows) (now (case .exit))) (vec-items (now (plays .exit))) ⌝ }

@@ -2,6 +2,7 @@
 mod close;
 mod desk;
 mod plain;
+pub mod rehearse;
 mod run;
 mod serve;
 mod tokens;

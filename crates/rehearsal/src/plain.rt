@@ -63,7 +63,11 @@ fn tried(r: Result<(), Stop>) -> Result<Answer, AllocError>
 }
 
 // A call that names no play.
-pub(crate) fn serve_plain<S: System, B: Board>(heap: Global, case: &mut Case<S, B>, call: Call) -> Result<Answer, AllocError>
+pub(crate) fn serve_plain<S: System, B: Board>(
+    heap: Global,
+    case: &mut Case<S, B>,
+    call: Call,
+) -> Result<Answer, AllocError>
     requires { ⌜ plain call ≡ true ⌝ }
     ensures steps { λ r. ⌜ Cases r (λ a. Calls (S·System .means (system-of (now (case .entry)))) (out-of (now (case .entry))) (model (B·Board .shows) (now (case .entry))) call a (model (B·Board .shows) (now (case .exit)))) (λ _. model (B·Board .shows) (now (case .exit)) ≡ model (B·Board .shows) (now (case .entry))) ⌝ }
     ensures same { λ r. ⌜ system-of (now (case .exit)) ≡ system-of (now (case .entry)) ⌝ }

@@ -18,7 +18,12 @@ use std::alloc::AllocError;
 use std::alloc::Global;
 
 // Serves the calls in their order, and gives their answers.
-pub(crate) fn run<S: System, B: Board>(heap: Global, case: &mut Case<S, B>, plays: &mut Vec<Play>, calls: &[Call]) -> Result<Vec<Answer>, AllocError>
+pub(crate) fn run<S: System, B: Board>(
+    heap: Global,
+    case: &mut Case<S, B>,
+    plays: &mut Vec<Play>,
+    calls: &[Call],
+) -> Result<Vec<Answer>, AllocError>
     requires counted { ⌜ out-of (now case) ≡ vec-len (now plays) ⌝ }
     requires room { ⌜ 8 ≤ vec-cap (now plays) ⌝ }
     requires fit { ⌜ (0 < vec-len (now plays) → no-board (S·System .means (system-of (now case))) (model (B·Board .shows) (now case)) ≡ false) ⌝ }

@@ -20,7 +20,12 @@ use std::alloc::AllocError;
 use std::alloc::Global;
 
 // Without memory nothing changes.
-pub(crate) fn serve<S: System, B: Board>(heap: Global, case: &mut Case<S, B>, plays: &mut Vec<Play>, call: Call) -> Result<Answer, AllocError>
+pub(crate) fn serve<S: System, B: Board>(
+    heap: Global,
+    case: &mut Case<S, B>,
+    plays: &mut Vec<Play>,
+    call: Call,
+) -> Result<Answer, AllocError>
     requires counted { ⌜ out-of (now case) ≡ vec-len (now plays) ⌝ }
     requires room { ⌜ 8 ≤ vec-cap (now plays) ⌝ }
     ensures served { λ r. ⌜ Cases r (λ a. Served (S·System .means (system-of (now (case .entry)))) (model (B·Board .shows) (now (case .entry))) (vec-items (now (plays .entry))) call a (model (B·Board .shows) (now (case .exit))) (vec-items (now (plays .exit)))) (λ _. (model (B·Board .shows) (now (case .exit)) ≡ model (B·Board .shows) (now (case .entry))) × (vec-items (now (plays .exit)) ≡ vec-items (now (plays .entry)))) ⌝ }

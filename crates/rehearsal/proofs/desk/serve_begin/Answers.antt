@@ -29,11 +29,12 @@ returns-in-Ok g c =
     let b = c .in-Ok .ensures tt in
     record {
       served = λ qs h.
-        let long : length qs ≡ out-of (c .args .case .now) = seated-length ts qs h ∙ sym (c .args .plays .now .ok .0) ∙ sym (c .pre .counted) in
-        let qs′ = qs ++ moving (c .args .state) [] (c .in-Ok .play) ∷ [] in
-        (qs′,
-         subst (λ m. Step M (world (model (g .B·Board .shows) (c .args .case .now)) qs) (Begin (c .args .state)) Done (world m qs′)) (sym (b .shows)) (b .steps .0 qs long),
-         subst (λ l. Seated l qs′) (sym (c .push-reserved .ensures .items)) (seated-push ts qs (c .args .state) [] (Move (c .in-Ok .play)) h));
+          let long : length qs ≡ out-of (c .args .case .now) = seated-length ts qs h ∙ sym (c .args .plays .now .ok .0) ∙ sym (c .pre .counted) in
+          let qs′ = qs ++ moving (c .args .state) [] (c .in-Ok .play) ∷ [] in (
+            qs′,
+            subst (λ m. Step M (world (model (g .B·Board .shows) (c .args .case .now)) qs) (Begin (c .args .state)) Done (world m qs′)) (sym (b .shows)) (b .steps .0 qs long),
+            subst (λ l. Seated l qs′) (sym (c .push-reserved .ensures .items)) (seated-push ts qs (c .args .state) [] (Move (c .in-Ok .play)) h),
+          );
       same = b .same;
       counted = omega (arith, b .steps .1, c .pre .counted, c .push-reserved .ensures .len);
       room = omega (arith, c .pre .room, c .push-reserved .ensures .capacity);
@@ -46,8 +47,8 @@ returns-in-Err g c =
     let b = c .in-Err .ensures tt in
     record {
       served = λ qs h.
-        let long : length qs ≡ out-of (c .args .case .now) = seated-length ts qs h ∙ sym (c .args .plays .now .ok .0) ∙ sym (c .pre .counted) in
-        (qs, subst (λ m. Step M (world (model (g .B·Board .shows) (c .args .case .now)) qs) (Begin (c .args .state)) (Refused (c .in-Err .fault)) (world m qs)) (sym (b .shows)) (b .steps .0 qs long), h);
+          let long : length qs ≡ out-of (c .args .case .now) = seated-length ts qs h ∙ sym (c .args .plays .now .ok .0) ∙ sym (c .pre .counted) in
+          (qs, subst (λ m. Step M (world (model (g .B·Board .shows) (c .args .case .now)) qs) (Begin (c .args .state)) (Refused (c .in-Err .fault)) (world m qs)) (sym (b .shows)) (b .steps .0 qs long), h);
       same = b .same;
       counted = b .steps .1 ∙ c .pre .counted;
       room = c .pre .room;

@@ -35,11 +35,12 @@ returns-in-Ok g c =
     let fewer = b .steps os i (oq .start) (oq .told) (seated-length ts os o ∙ sym (c .args .plays .now .ok .0) ∙ sym (c .pre .counted)) (oat ∙ ap (λ x. Some x) oown) .1 in
     record {
       served = λ qs h.
-        let (q, at, own) = seated-nth ts qs i (c .remove-taken .result) h less (c .remove-taken .ensures .value) in
-        let step = b .steps qs i (q .start) (q .told) (seated-length ts qs h ∙ sym (c .args .plays .now .ok .0) ∙ sym (c .pre .counted)) (at ∙ ap (λ x. Some x) own) .0 in
-        (removed qs i,
-         subst (λ m. Step M (world (model (g .B·Board .shows) (c .args .case .now)) qs) (End i) (Outcome (c .in-Ok .x .steps) (c .in-Ok .x .met)) (world m (removed qs i))) (sym (b .shows)) step,
-         subst (λ l. Seated l (removed qs i)) (sym (c .remove-taken .ensures .items)) (seated-removed ts qs i less h));
+          let (q, at, own) = seated-nth ts qs i (c .remove-taken .result) h less (c .remove-taken .ensures .value) in
+          let step = b .steps qs i (q .start) (q .told) (seated-length ts qs h ∙ sym (c .args .plays .now .ok .0) ∙ sym (c .pre .counted)) (at ∙ ap (λ x. Some x) own) .0 in (
+            removed qs i,
+            subst (λ m. Step M (world (model (g .B·Board .shows) (c .args .case .now)) qs) (End i) (Outcome (c .in-Ok .x .steps) (c .in-Ok .x .met)) (world m (removed qs i))) (sym (b .shows)) step,
+            subst (λ l. Seated l (removed qs i)) (sym (c .remove-taken .ensures .items)) (seated-removed ts qs i less h),
+          );
       same = b .same;
       counted = omega (arith, fewer, c .pre .counted, c .remove-taken .ensures .len);
       room = omega (arith, c .pre .room, c .remove-taken .ensures .capacity);
@@ -59,11 +60,12 @@ returns-in-Err g c =
     let items = c .put-in .ensures .items ∙ ap (λ l. inserted l i play) (c .remove-taken .ensures .items) ∙ put-back ts i play less in
     record {
       served = λ qs h.
-        let (q, at, own) = seated-nth ts qs i (c .remove-taken .result) h less (c .remove-taken .ensures .value) in
-        let (step, same, out) = b .steps qs i (q .start) (q .told) (seated-length ts qs h ∙ sym (c .args .plays .now .ok .0) ∙ sym (c .pre .counted)) (at ∙ ap (λ x. Some x) own) in
-        (qs,
-         subst (λ m. Step M (world (model (g .B·Board .shows) (c .args .case .now)) qs) (End i) (Refused (c .in-Err .back .fault)) (world m qs)) (sym (b .shows)) step,
-         subst (λ l. Seated l qs) (sym items) (seated-swap ts qs i play q h at (same ∙ sym own)));
+          let (q, at, own) = seated-nth ts qs i (c .remove-taken .result) h less (c .remove-taken .ensures .value) in
+          let (step, same, out) = b .steps qs i (q .start) (q .told) (seated-length ts qs h ∙ sym (c .args .plays .now .ok .0) ∙ sym (c .pre .counted)) (at ∙ ap (λ x. Some x) own) in (
+            qs,
+            subst (λ m. Step M (world (model (g .B·Board .shows) (c .args .case .now)) qs) (End i) (Refused (c .in-Err .back .fault)) (world m qs)) (sym (b .shows)) step,
+            subst (λ l. Seated l qs) (sym items) (seated-swap ts qs i play q h at (same ∙ sym own)),
+          );
       same = b .same;
       counted = omega (arith, kept, c .pre .counted, c .put-in .ensures .len, c .remove-taken .ensures .len);
       room = omega (arith, c .pre .room, c .put-in .ensures .capacity, c .remove-taken .ensures .capacity);

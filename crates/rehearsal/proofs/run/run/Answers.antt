@@ -30,11 +30,13 @@ pub loop-call-again : need.loop-call-again
 loop-call-again g c =
     let s = c .in-Continue-answer .ensures tt in
     let inv = c .loop-call .inv in
-    let fit = served-fit _ _ _ _ _ _ _ (s .served) (λ more. inv .2 (omega (arith, c .loop-call .plays .ok .0))) in
-    (s .counted, s .room,
-     (λ more. ap (λ x. no-board (g .S·System .means x) (model (g .B·Board .shows) (c .serve .last .case))) (s .same) ∙ fit (omega (arith, c .serve .last .plays .ok .0))),
-     s .same ∙ inv .3,
-     ran-more (g .S·System .means) _ _ _ _ _ _ _ _ (c .args .calls .now) (c .loop-call .call-index) _ _ _ _ (inv .3) (c .loop-call-test .taken) (inv .4) (s .served) (c .in-Continue-push .ensures tt .items))
+    let fit = served-fit _ _ _ _ _ _ _ (s .served) (λ more. inv .2 (omega (arith, c .loop-call .plays .ok .0))) in (
+      s .counted,
+      s .room,
+      (λ more. ap (λ x. no-board (g .S·System .means x) (model (g .B·Board .shows) (c .serve .last .case))) (s .same) ∙ fit (omega (arith, c .serve .last .plays .ok .0))),
+      s .same ∙ inv .3,
+      ran-more (g .S·System .means) _ _ _ _ _ _ _ _ (c .args .calls .now) (c .loop-call .call-index) _ _ _ _ (inv .3) (c .loop-call-test .taken) (inv .4) (s .served) (c .in-Continue-push .ensures tt .items),
+    )
 
 pub returns : need.returns
 returns g c =

@@ -11,8 +11,8 @@ returns-in-rest g c =
     let ts = vec-items (c .args .plays .now) in
     record {
       served = cases-weaker (c .serve-plain .result) (c .serve-plain .ensures .steps)
-        (λ a calls qs h. (qs, calls qs (seated-length ts qs h ∙ sym (c .args .plays .now .ok .0) ∙ sym (c .pre .counted)), h))
-        (λ _ e. (e, refl));
+          (λ a calls qs h. (qs, calls qs (seated-length ts qs h ∙ sym (c .args .plays .now .ok .0) ∙ sym (c .pre .counted)), h))
+          (λ _ e. (e, refl));
       same = c .serve-plain .ensures .same;
       counted = c .serve-plain .ensures .out ∙ c .pre .counted;
       room = c .pre .room;

@@ -21,10 +21,13 @@ returns-then-not-is-reply g c qs i start told at =
     let me = c .args .self .now in
     let M = g .S·System .means (me .system) in
     let t = c .args .play in
-    let known : t .state < M .states = omega (arith, c .if-play-states .left, c .states .ensures) in
-    (tell-refused M (model (g .B·Board .shows) me) qs i (c .args .reply) start told t at (sym (c .is-unfit .ensures) ∙ c .if-is-unfit .left) (sheeted (me .sheet) (c .is-none .ensures ∙ ap not (c .if-is-none .left))) known
-      (ap (λ x. fits-side M (λ k. not (member x k)) (t .state) (c .args .reply)) (sym (c .group .ensures)) ∙ sym (c .is-reply .ensures) ∙ c .if-not-is-reply .taken) _ (c .refusal-then-not-is-reply .ensures),
-     refl, refl, refl)
+    let known : t .state < M .states = omega (arith, c .if-play-states .left, c .states .ensures) in (
+      tell-refused M (model (g .B·Board .shows) me) qs i (c .args .reply) start told t at (sym (c .is-unfit .ensures) ∙ c .if-is-unfit .left) (sheeted (me .sheet) (c .is-none .ensures ∙ ap not (c .if-is-none .left))) known
+          (ap (λ x. fits-side M (λ k. not (member x k)) (t .state) (c .args .reply)) (sym (c .group .ensures)) ∙ sym (c .is-reply .ensures) ∙ c .if-not-is-reply .taken) _ (c .refusal-then-not-is-reply .ensures),
+      refl,
+      refl,
+      refl,
+    )
 
 pub returns : need.returns
 returns g c qs i start told at =
