@@ -1,0 +1,4 @@
+// Verdicts on the goals of a case, and what is printed of them.
+pub mod line;
+pub mod refusal;
+pub mod report;
