@@ -7,6 +7,7 @@ use native.Mathlib.Omega.{arith}
 use lib.Dec.{eqb, ltb}
 use borrow.Author.Tests.{ltb-true, eqb-true}
 use native.Mathlib.Decide.{decLt}
+use Rattle.std.proofs.shelf.Tests.{lt-ltb, le-ltb}
 use Rattle.game.specs.Meaning.{Lawful, JointChoice, GroupChoice, member, digit}
 use Rattle.game.specs.Objectives.{_∈_}
 use Rattle.game.specs.Sheets.{Sheet, IsSheet}
@@ -122,9 +123,15 @@ van-case = record {
   step-5 = refl;
   step-4 = refl;
   alone = alone;
-  alone-is = until-certified van lawful 2 everywhere counted alone-set alone-sheet alone alone-has (λ t ht p nd. refl);
+  alone-is = record {
+    decides = until-certified van lawful 2 everywhere counted alone-set alone-sheet alone alone-has (λ t ht p nd. lt-ltb t 4 ht);
+    past = λ t h. rw (le-ltb t 4 h) refl;
+  };
   both = both;
-  both-is = until-certified van lawful 3 everywhere counted everywhere both-sheet both (λ t ht hd. refl) (λ t ht p nd. refl);
+  both-is = record {
+    decides = until-certified van lawful 3 everywhere counted everywhere both-sheet both (λ t ht hd. lt-ltb t 4 ht) (λ t ht p nd. lt-ltb t 4 ht);
+    past = λ t h. le-ltb t 4 h;
+  };
   alone-values = alone-values;
   both-values = both-values;
 }

@@ -33,7 +33,7 @@ van = record {
 }
 
 abbrev pub everywhere : States
-everywhere t = true
+everywhere t = ltb t 4
 
 abbrev pub counted : States
 counted = van .holds 0
@@ -43,7 +43,7 @@ abbrev pub goal : Objective
 goal = until everywhere counted
 
 abbrev pub alone-set : States
-alone-set t = ltb 0 t
+alone-set t = ltb t 4 && ltb 0 t
 
 abbrev pub alone-sheet : Sheet
 alone-sheet = record {

@@ -1,7 +1,7 @@
 // Choices, one number for the actions of all agents.
 ghost use mathlib.Core.Path.{_≡_};
 ghost use lib.ListN.{getD};
-ghost use Rattle.game.specs.Meaning.{choice as sum-of, actions as actions-of};
+ghost use Rattle.game.specs.Meaning.{choice as sum-of, actions as actions-of, member};
 
 // The actions of six agents in a choice.
 pub fn unpack(choice: usize) -> [u8; 6]
@@ -28,4 +28,11 @@ pub fn pack(actions: [u8; 6]) -> usize
         + d as usize * 64
         + e as usize * 256
         + f as usize * 1024
+}
+
+// Whether an agent is a member of a group, which is a mask: bit i for agent i.
+pub fn in_group(group: u8, agent: usize) -> bool
+    ensures { λ r. ⌜ r ≡ member group agent ⌝ }
+{
+    agent < 8 && (group >> agent) & 1 == 1
 }

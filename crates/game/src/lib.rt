@@ -5,7 +5,7 @@ pub mod goal;
 pub mod system;
 
 ghost use Rattle.game.specs.Van.{Van-case};
-ghost use Rattle.game.specs.Theorems.{Strategy-theorem, Sheets-exist, Granted-where-ensured, Plays-exist, Sheets-agree, Choices-are-sums};
+ghost use Rattle.game.specs.Theorems.{Strategy-theorem, Sheets-exist, Granted-where-ensured, Plays-exist, Sets-agree, Sheets-agree, Choices-are-sums, Words-are-goals, Sets-decide-formulas, Formulas-are-spelled, Goals-have-sets};
 
 pub fn strategy_theorem_stands() -> u8
     ensures { λ _. ⌜ Strategy-theorem ⌝ }
@@ -31,6 +31,12 @@ pub fn plays_exist() -> u8
     0
 }
 
+pub fn sets_agree() -> u8
+    ensures { λ _. ⌜ Sets-agree ⌝ }
+{
+    0
+}
+
 pub fn sheets_agree() -> u8
     ensures { λ _. ⌜ Sheets-agree ⌝ }
 {
@@ -45,6 +51,30 @@ pub fn van_case_stands() -> u8
 
 pub fn choices_are_sums() -> u8
     ensures { λ _. ⌜ Choices-are-sums ⌝ }
+{
+    0
+}
+
+pub fn words_are_goals() -> u8
+    ensures { λ _. ⌜ Words-are-goals ⌝ }
+{
+    0
+}
+
+pub fn sets_decide_formulas() -> u8
+    ensures { λ _. ⌜ Sets-decide-formulas ⌝ }
+{
+    0
+}
+
+pub fn formulas_are_spelled() -> u8
+    ensures { λ _. ⌜ Formulas-are-spelled ⌝ }
+{
+    0
+}
+
+pub fn goals_have_sets() -> u8
+    ensures { λ _. ⌜ Goals-have-sets ⌝ }
 {
     0
 }
