@@ -1,0 +1,4 @@
+pub mod Cut
+pub mod Every
+pub mod Says
+pub mod Taking
