@@ -3,8 +3,7 @@ pub mod error;
 mod faults;
 mod kind;
 mod reader;
-
 mod records;
 mod stage;
-
+mod step;
 pub mod word;
