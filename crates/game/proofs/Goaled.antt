@@ -36,7 +36,10 @@ module _ (M : Meaning) (law : Lawful M) (R : ℕ → States) (φ : Goal) where
   test-past s (no h) hs = refl
 
 pub goals-have-sets : Goals-have-sets
-goals-have-sets M law R φ = (λ s. test M law R φ s (decLt s (M .states)), record {
-  decides = λ s hs. test-is M law R φ s (decLt s (M .states)) hs;
-  past = λ s hs. test-past M law R φ s (decLt s (M .states)) hs;
-})
+goals-have-sets M law R φ = (
+  λ s. test M law R φ s (decLt s (M .states)),
+  record {
+    decides = λ s hs. test-is M law R φ s (decLt s (M .states)) hs;
+    past = λ s hs. test-past M law R φ s (decLt s (M .states)) hs;
+  },
+)

@@ -2,3 +2,5 @@ pub mod Cut
 pub mod Every
 pub mod Says
 pub mod Taking
+pub mod Going
+pub mod Slice

@@ -85,16 +85,16 @@ pub rules-push : (rs : List RuleText) (r : RuleText) →
 rules-push [] r = ap (λ v. rule-word (length (r .conditions)) (r .next) ∷ v) (append-nil (map condition-word (r .conditions)))
 rules-push (y ∷ rs) r =
     ap (λ v. rule-word (length (y .conditions)) (y .next) ∷ v)
-      (ap (λ v. map condition-word (y .conditions) ++ v) (rules-push rs r)
-       ∙ sym (append-assoc (map condition-word (y .conditions)) (rules-words rs) (rule-word (length (r .conditions)) (r .next) ∷ map condition-word (r .conditions))))
+    (ap (λ v. map condition-word (y .conditions) ++ v) (rules-push rs r)
+    ∙ sym (append-assoc (map condition-word (y .conditions)) (rules-words rs) (rule-word (length (r .conditions)) (r .next) ∷ map condition-word (r .conditions))))
 
 pub labels-push : (ls : List LabelText) (l : LabelText) →
     labels-words (ls ++ (l ∷ [])) ≡ labels-words ls ++ (label-word (length (l .conditions)) (l .atom) ∷ map local-word (l .conditions))
 labels-push [] l = ap (λ v. label-word (length (l .conditions)) (l .atom) ∷ v) (append-nil (map local-word (l .conditions)))
 labels-push (y ∷ ls) l =
     ap (λ v. label-word (length (y .conditions)) (y .atom) ∷ v)
-      (ap (λ v. map local-word (y .conditions) ++ v) (labels-push ls l)
-       ∙ sym (append-assoc (map local-word (y .conditions)) (labels-words ls) (label-word (length (l .conditions)) (l .atom) ∷ map local-word (l .conditions))))
+    (ap (λ v. map local-word (y .conditions) ++ v) (labels-push ls l)
+    ∙ sym (append-assoc (map local-word (y .conditions)) (labels-words ls) (label-word (length (l .conditions)) (l .atom) ∷ map local-word (l .conditions))))
 
 agents-push : (i : ℕ) (gs : List AgentText) (g : AgentText) →
     agents-words i (gs ++ (g ∷ [])) ≡ agents-words i gs ++ (agent-word (i + length gs) (g .locals) ∷ (protocol-words 0 (g .masks) ++ rules-words (g .rules)))
@@ -104,21 +104,21 @@ agents-push i [] g =
 agents-push i (y ∷ gs) g =
     let new = protocol-words 0 (g .masks) ++ rules-words (g .rules) in
     let step : agents-words (suc i) (gs ++ (g ∷ [])) ≡ agents-words (suc i) gs ++ (agent-word (i + suc (length gs)) (g .locals) ∷ new) =
-      agents-push (suc i) gs g ∙ ap (λ k. agents-words (suc i) gs ++ (agent-word k (g .locals) ∷ new)) (suc-add i (length gs) ∙ sym (add-suc i (length gs))) in
+    agents-push (suc i) gs g ∙ ap (λ k. agents-words (suc i) gs ++ (agent-word k (g .locals) ∷ new)) (suc-add i (length gs) ∙ sym (add-suc i (length gs))) in
     let last = agent-word (i + suc (length gs)) (g .locals) ∷ new in
     ap (λ v. agent-word i (y .locals) ∷ v)
-      (ap (λ v. protocol-words 0 (y .masks) ++ (rules-words (y .rules) ++ v)) step
-       ∙ ap (λ v. protocol-words 0 (y .masks) ++ v) (sym (append-assoc (rules-words (y .rules)) (agents-words (suc i) gs) last))
-       ∙ sym (append-assoc (protocol-words 0 (y .masks)) (rules-words (y .rules) ++ agents-words (suc i) gs) last))
+    (ap (λ v. protocol-words 0 (y .masks) ++ (rules-words (y .rules) ++ v)) step
+    ∙ ap (λ v. protocol-words 0 (y .masks) ++ v) (sym (append-assoc (rules-words (y .rules)) (agents-words (suc i) gs) last))
+    ∙ sym (append-assoc (protocol-words 0 (y .masks)) (rules-words (y .rules) ++ agents-words (suc i) gs) last))
 
 -- An agent that is complete.
 pub agent-done : (s : Word) (gs gs′ : List AgentText) (g : AgentText) → gs′ ≡ gs ++ (g ∷ []) →
     (s ∷ agents-words 0 gs′) ≡ (s ∷ (agents-words 0 gs ++ (agent-word (length gs) (g .locals) ∷ protocol-words 0 (g .masks)))) ++ rules-words (g .rules)
 agent-done s gs gs′ g more =
     ap (λ v. s ∷ v)
-      (ap (agents-words 0) more ∙ agents-push 0 gs g
-       ∙ ap (λ k. agents-words 0 gs ++ (agent-word k (g .locals) ∷ (protocol-words 0 (g .masks) ++ rules-words (g .rules)))) (zero-add (length gs))
-       ∙ sym (append-assoc (agents-words 0 gs) (agent-word (length gs) (g .locals) ∷ protocol-words 0 (g .masks)) (rules-words (g .rules))))
+    (ap (agents-words 0) more ∙ agents-push 0 gs g
+    ∙ ap (λ k. agents-words 0 gs ++ (agent-word k (g .locals) ∷ (protocol-words 0 (g .masks) ++ rules-words (g .rules)))) (zero-add (length gs))
+    ∙ sym (append-assoc (agents-words 0 gs) (agent-word (length gs) (g .locals) ∷ protocol-words 0 (g .masks)) (rules-words (g .rules))))
 
 pub start-says : (before : List Word) (ss ss′ : List ℕ) (x : Word) (states : ℕ) → x .kind ≡ 6 → judged (x .a + x .b) (start-fits states x) 0 ≡ 0 → x .d < 256 →
     ss′ ≡ ss ++ ((x .c * 256 + x .d) ∷ []) → before ++ map start-word ss′ ≡ (before ++ map start-word ss) ++ (x ∷ [])
@@ -140,8 +140,8 @@ end-says ws x place kind right byte at =
     let unused = p .0 in
     let n : length ws ≡ x .c * 256 + x .d = sym (eqb-true (x .c * 256 + x .d) place (miscount-zero (eqb (x .c * 256 + x .d) place) (p .2)) ∙ at) in
     let is : x ≡ w 9 0 0 (length ws / 256) (length ws % 256) =
-      word-is x 9 0 0 (length ws / 256) (length ws % 256) kind (omega arith) (omega arith)
-        (sym (ap (λ v. v / 256) n ∙ div-mul-add (x .c) 256 (x .d) byte)) (sym (ap (λ v. v % 256) n ∙ mod-mul-add (x .c) 256 (x .d) byte)) in
+    word-is x 9 0 0 (length ws / 256) (length ws % 256) kind (omega arith) (omega arith)
+    (sym (ap (λ v. v / 256) n ∙ div-mul-add (x .c) 256 (x .d) byte)) (sym (ap (λ v. v % 256) n ∙ mod-mul-add (x .c) 256 (x .d) byte)) in
     ap (λ v. ws ++ (v ∷ [])) (sym is)
 
 -- What a right word's numbers are.

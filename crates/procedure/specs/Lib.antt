@@ -4,3 +4,4 @@ pub mod Texts
 pub mod Parts
 pub mod Faults
 pub mod Reader
+pub mod Reading

@@ -68,6 +68,10 @@ told stage.Done p = ended (aimed p)
 abbrev pub said : Part → List Word
 said p = told (p .stage) p
 
+-- The description that a part with all its agents is.
+abbrev pub whole : Part → Description
+whole p = record { agents = p .agents; atoms = p .atoms; starts = p .starts; labels = p .labels; goals = p .goals }
+
 -- The stage of a part is the one that its words show.
 abbrev pub Shown : Stage → Part → Type 0
 Shown stage.Begin p = Unit {0}

@@ -20,7 +20,11 @@ pub fn fault(place: usize, number: u8) -> ReadError
     } else {
         Layer::System
     };
-    ReadError::Refused(Fault { number, layer, place })
+    ReadError::Refused(Fault {
+        number,
+        layer,
+        place,
+    })
 }
 
 // Both unused fields are 0.

@@ -2,7 +2,9 @@
 pub mod error;
 mod faults;
 mod kind;
+pub mod procedure;
 mod reader;
+pub mod reading;
 mod records;
 mod stage;
 mod step;

@@ -30,7 +30,11 @@ use systems::line::Rule;
 fn idle(word: Word) -> u8
     ensures { λ r. ⌜ r ≡ unnamed word ⌝ }
 {
-    if word.a == 2 || word.a == 3 { 0 } else { word.b }
+    if word.a == 2 || word.a == 3 {
+        0
+    } else {
+        word.b
+    }
 }
 
 // At most 8 conditions, and the line's number below the limit.
@@ -48,7 +52,10 @@ impl Reader {
         ensures { λ r. ⌜ Took [] word place (judged (word .a) (system-fits word) 0) r (now (self .exit)) ⌝ }
     {
         unused(place, word.a, 0)?;
-        ranged(place, word.b > 0 && word.b < 7 && word.c < 29 && word.d == 1)?;
+        ranged(
+            place,
+            word.b > 0 && word.b < 7 && word.c < 29 && word.d == 1,
+        )?;
         self.n = word.b;
         self.atoms = word.c;
         self.stage = Stage::Agents;
@@ -63,7 +70,10 @@ impl Reader {
             (judged (word .a + word .d) (agent-fits (vec-len (now (self .entry) .sizes)) word) (crowded (now (self .entry) .states) word)) r (now (self .exit)) ⌝ }
     {
         unused(place, word.a, word.d)?;
-        ranged(place, word.b as usize == self.sizes.len() && word.c > 0 && word.c < 17)?;
+        ranged(
+            place,
+            word.b as usize == self.sizes.len() && word.c > 0 && word.c < 17,
+        )?;
         let states = self.states as u32 * word.c as u32;
         if states > 1024 {
             return Err(fault(place, 6));
@@ -83,7 +93,10 @@ impl Reader {
             (judged (word .a + word .b) (protocol-fits (vec-len (now (self .entry) .masks)) word) 0) r (now (self .exit)) ⌝ }
     {
         unused(place, word.a, word.b)?;
-        ranged(place, word.c as usize == self.masks.len() && word.d > 0 && word.d < 16)?;
+        ranged(
+            place,
+            word.c as usize == self.masks.len() && word.d > 0 && word.d < 16,
+        )?;
         self.masks.push(word.d)?;
         if self.masks.len() == self.locals as usize {
             self.stage = Stage::Rules;
@@ -117,15 +130,21 @@ impl Reader {
         ensures { λ r. ⌜ Cases r (λ _. Closed-rule (now (self .entry)) (now (self .exit))) (λ e. e ≡ Memory) ⌝ }
     {
         let conditions = std::mem::replace(&mut self.tests, Vec::new(heap));
-        self.rules.push(Rule {
-            conditions,
-            next: self.line,
-        })?;
+        self.rules
+            .push(Rule {
+                conditions,
+                next: self.line,
+            })?;
         self.stage = Stage::Rules;
         Ok(())
     }
 
-    pub fn rule_condition(&mut self, heap: Global, place: usize, word: Word) -> Result<(), ReadError>
+    pub fn rule_condition(
+        &mut self,
+        heap: Global,
+        place: usize,
+        word: Word,
+    ) -> Result<(), ReadError>
         requires at { ⌜ now self .stage ≡ stage.RuleLine ⌝ }
         requires kind { ⌜ word .kind ≡ 5 ⌝ }
         requires ready { ⌜ Ready stage.RuleLine (now self) ⌝ }
@@ -164,11 +183,12 @@ impl Reader {
     {
         let masks = std::mem::replace(&mut self.masks, Vec::new(heap));
         let rules = std::mem::replace(&mut self.rules, Vec::new(heap));
-        self.agents.push(Agent {
-            locals: self.locals,
-            masks,
-            rules,
-        })?;
+        self.agents
+            .push(Agent {
+                locals: self.locals,
+                masks,
+                rules,
+            })?;
         Ok(())
     }
 
@@ -231,7 +251,12 @@ impl Reader {
         Ok(())
     }
 
-    pub fn label_condition(&mut self, heap: Global, place: usize, word: Word) -> Result<(), ReadError>
+    pub fn label_condition(
+        &mut self,
+        heap: Global,
+        place: usize,
+        word: Word,
+    ) -> Result<(), ReadError>
         requires at { ⌜ now self .stage ≡ stage.LabelLine ⌝ }
         requires kind { ⌜ word .kind ≡ 5 ⌝ }
         requires ready { ⌜ Ready stage.LabelLine (now self) ⌝ }
@@ -240,10 +265,11 @@ impl Reader {
     {
         unused(place, word.c, idle(word))?;
         ranged(place, self.want_fits(word))?;
-        self.wants.push(LocalState {
-            agent: word.b,
-            value: word.d,
-        })?;
+        self.wants
+            .push(LocalState {
+                agent: word.b,
+                value: word.d,
+            })?;
         self.left -= 1;
         if self.left == 0 {
             return self.close_label(heap);
@@ -269,10 +295,11 @@ impl Reader {
         ensures { λ r. ⌜ Cases r (λ _. Closed-label (now (self .entry)) (now (self .exit))) (λ e. e ≡ Memory) ⌝ }
     {
         let conditions = std::mem::replace(&mut self.wants, Vec::new(heap));
-        self.labels.push(Label {
-            atom: self.line,
-            conditions,
-        })?;
+        self.labels
+            .push(Label {
+                atom: self.line,
+                conditions,
+            })?;
         self.stage = Stage::Labels;
         Ok(())
     }

@@ -25,8 +25,16 @@ impl Reader {
             (Stage::Agents, Kind::Agent) => self.agent(place, word),
             (Stage::Protocols, Kind::Protocol) => self.protocol(place, word),
             (Stage::Rules, Kind::Rule) => self.rule(heap, place, word),
-            (Stage::Rules, Kind::Agent) if self.sizes.len() < self.n as usize => self.next_agent(heap, place, word),
-            (Stage::Rules, Kind::Start) if self.sizes.len() == self.n as usize => self.first_start(heap, place, word),
+            (Stage::Rules, Kind::Agent) if self.sizes.len() < self.n as usize => self.next_agent(
+                heap,
+                place,
+                word,
+            ),
+            (Stage::Rules, Kind::Start) if self.sizes.len() == self.n as usize => self.first_start(
+                heap,
+                place,
+                word,
+            ),
             (Stage::RuleLine, Kind::Condition) => self.rule_condition(heap, place, word),
             (Stage::Starts, Kind::Start) => self.start(place, word),
             (Stage::Starts | Stage::Labels, Kind::Label) => self.label(heap, place, word),

@@ -23,23 +23,24 @@ returns c =
     let empty : vec-len (r .masks) ≡ 0 = r .masks .ok .0 ∙ ap length (b .idle .masks) in
     let none : vec-len (r .masks) < x .c = omega arith in
     let number : vec-len (r .sizes) ≡ length (map agent-text (vec-items (r .agents))) =
-      r .sizes .ok .0 ∙ ap length (b .sizes) ∙ length-map (vec-items (r .agents)) (λ g. g .locals) ∙ sym (length-map (vec-items (r .agents)) agent-text) in
+    r .sizes .ok .0 ∙ ap length (b .sizes) ∙ length-map (vec-items (r .agents)) (λ g. g .locals) ∙ sym (length-map (vec-items (r .agents)) agent-text) in
     record {
       right = right;
       says = agent-says (heads (part r)) _ (vec-items (r .masks)) x (vec-len (r .sizes)) (r .states) (c .pre .kind) right number (b .idle .masks);
-      ready =
-        ( record {
-            numbered = b .numbered;
-            sized = record {
-              is = ap (λ v. v * x .c) (b .sized .is) ∙ sym (product-push (vec-items (r .sizes)) (x .c)) ∙ ap product (sym more);
-              small = search needs;
-            };
-            sizes = more ∙ ap (λ v. v ++ (x .c ∷ [])) (b .sizes);
-            count = omega (arith, c .in-Continue-push .ensures tt .len, c .pre .more);
-            draft = record { one = search needs; few = search needs; allows = all-none _ _ (b .idle .masks); lands = all-none _ _ (b .idle .rules) };
-            later = b .later;
-          }
-        , none
-        , b .idle .rules
-        , b .idle .tests );
+      ready = (
+        record {
+          numbered = b .numbered;
+          sized = record {
+            is = ap (λ v. v * x .c) (b .sized .is) ∙ sym (product-push (vec-items (r .sizes)) (x .c)) ∙ ap product (sym more);
+            small = search needs;
+          };
+          sizes = more ∙ ap (λ v. v ++ (x .c ∷ [])) (b .sizes);
+          count = omega (arith, c .in-Continue-push .ensures tt .len, c .pre .more);
+          draft = record { one = search needs; few = search needs; allows = all-none _ _ (b .idle .masks); lands = all-none _ _ (b .idle .rules) };
+          later = b .later;
+        },
+        none,
+        b .idle .rules,
+        b .idle .tests,
+      );
     }

@@ -26,16 +26,17 @@ returns c =
     let some : 0 < vec-len (c .push .last .self) = omega (arith, c .in-Continue-push .ensures tt .len) in
     record {
       at = refl;
-      ready =
-        ( record { numbered = h .numbered; sized = h .sized; sizes = h .sizes; all = h .all; known = h .known }
-        , c .pre .begins
-        , some
-        , c .pre .goals
-        , ap vec-items (c .replace-conditions .ensures .after) ∙ c .new .ensures .items );
+      ready = (
+        record { numbered = h .numbered; sized = h .sized; sizes = h .sizes; all = h .all; known = h .known },
+        c .pre .begins,
+        some,
+        c .pre .goals,
+        ap vec-items (c .replace-conditions .ensures .after) ∙ c .new .ensures .items,
+      );
       says =
-        ap (λ v. begun (part r) ++ v)
+          ap (λ v. begun (part r) ++ v)
           (ap (λ v. labels-words (map label-text v)) more ∙ ap labels-words (map-append label-text ls (x ∷ [])) ∙ labels-push (map label-text ls) (label-text x)
-           ∙ ap (λ (v : Vec LocalState Global). labels-words (map label-text ls) ++ (label-word (length (vec-items v)) (r .line) ∷ map local-word (vec-items v))) (c .replace-conditions .ensures .value)
-           ∙ ap (λ v. labels-words (map label-text ls) ++ (label-word v (r .line) ∷ map local-word (vec-items (r .wants)))) (sym (r .wants .ok .0)))
-        ∙ sym (append-assoc (begun (part r)) (labels-words (map label-text ls)) line);
+          ∙ ap (λ (v : Vec LocalState Global). labels-words (map label-text ls) ++ (label-word (length (vec-items v)) (r .line) ∷ map local-word (vec-items v))) (c .replace-conditions .ensures .value)
+          ∙ ap (λ v. labels-words (map label-text ls) ++ (label-word v (r .line) ∷ map local-word (vec-items (r .wants)))) (sym (r .wants .ok .0)))
+          ∙ sym (append-assoc (begun (part r)) (labels-words (map label-text ls)) line);
     }

@@ -30,22 +30,27 @@ returns c =
     let P : List Rule → Type 0 = λ rs. all-of (λ q. ltb (q .next) (r .locals)) rs ≡ true in
     record {
       at = refl;
-      ready =
-        ( record {
-            numbered = h .numbered;
-            sized = h .sized;
-            sizes = h .sizes;
-            count = h .count;
-            draft = record { one = h .draft .one; few = h .draft .few; allows = h .draft .allows;
-              lands = subst P (sym more) (all-push _ rs x (h .draft .lands) (lt-ltb (r .line) (r .locals) (c .pre .lands))) };
-            later = h .later;
-          }
-        , c .pre .masks
-        , ap vec-items (c .replace-conditions .ensures .after) ∙ c .new .ensures .items );
+      ready = (
+        record {
+          numbered = h .numbered;
+          sized = h .sized;
+          sizes = h .sizes;
+          count = h .count;
+          draft = record {
+            one = h .draft .one;
+            few = h .draft .few;
+            allows = h .draft .allows;
+            lands = subst P (sym more) (all-push _ rs x (h .draft .lands) (lt-ltb (r .line) (r .locals) (c .pre .lands)));
+          };
+          later = h .later;
+        },
+        c .pre .masks,
+        ap vec-items (c .replace-conditions .ensures .after) ∙ c .new .ensures .items,
+      );
       says =
-        ap (λ v. masked (part r) ++ v)
+          ap (λ v. masked (part r) ++ v)
           (ap (λ v. rules-words (map rule-text v)) more ∙ ap rules-words (map-append rule-text rs (x ∷ [])) ∙ rules-push (map rule-text rs) (rule-text x)
-           ∙ ap (λ (v : Vec Condition Global). rules-words (map rule-text rs) ++ (rule-word (length (vec-items v)) (r .line) ∷ map condition-word (vec-items v))) (c .replace-conditions .ensures .value)
-           ∙ ap (λ v. rules-words (map rule-text rs) ++ (rule-word v (r .line) ∷ map condition-word (vec-items (r .tests)))) (sym (r .tests .ok .0)))
-        ∙ sym (append-assoc (masked (part r)) (rules-words (map rule-text rs)) line);
+          ∙ ap (λ (v : Vec Condition Global). rules-words (map rule-text rs) ++ (rule-word (length (vec-items v)) (r .line) ∷ map condition-word (vec-items v))) (c .replace-conditions .ensures .value)
+          ∙ ap (λ v. rules-words (map rule-text rs) ++ (rule-word v (r .line) ∷ map condition-word (vec-items (r .tests)))) (sym (r .tests .ok .0)))
+          ∙ sym (append-assoc (masked (part r)) (rules-words (map rule-text rs)) line);
     }

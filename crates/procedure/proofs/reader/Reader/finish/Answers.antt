@@ -23,7 +23,7 @@ returns c =
     let g : AgentText = record { locals = r .locals; masks = vec-items (r .masks); rules = map rule-text (vec-items (r .rules)) } in
     let the : Vec ℕ Global → Vec Rule Global → AgentText = λ ms rs. record { locals = r .locals; masks = vec-items ms; rules = map rule-text (vec-items rs) } in
     let count : vec-len (c .push .last .self) ≡ vec-len (r .sizes) =
-      omega (arith, c .in-Continue-push .ensures tt .len, r .sizes .ok .0, r .agents .ok .0, ap length (h .sizes), length-push (map (λ (v : Agent). v .locals) gs) (r .locals), length-map gs (λ (v : Agent). v .locals)) in
+    omega (arith, c .in-Continue-push .ensures tt .len, r .sizes .ok .0, r .agents .ok .0, ap length (h .sizes), length-push (map (λ (v : Agent). v .locals) gs) (r .locals), length-map gs (λ (v : Agent). v .locals)) in
     record {
       between = record {
         numbered = h .numbered;
@@ -32,7 +32,8 @@ returns c =
         idle = record {
           masks = ap vec-items (c .replace-masks .ensures .after) ∙ c .new .ensures .items;
           rules = ap vec-items (c .replace-rules .ensures .after) ∙ c .new-2 .ensures .items;
-          tests = c .pre .ready .2 };
+          tests = c .pre .ready .2;
+        };
         later = h .later;
       };
       all = count;
@@ -40,7 +41,7 @@ returns c =
       sizes = refl;
       states = refl;
       says = agent-done (system-word (r .n) (r .atoms)) (map agent-text gs) (map agent-text (vec-items (c .push .last .self))) g
-        (ap (map agent-text) more ∙ map-append agent-text gs _
-         ∙ ap (λ (v : Vec ℕ Global). map agent-text gs ++ (the v (c .replace-rules .result) ∷ [])) (c .replace-masks .ensures .value)
-         ∙ ap (λ (v : Vec Rule Global). map agent-text gs ++ (the (r .masks) v ∷ [])) (c .replace-rules .ensures .value));
+          (ap (map agent-text) more ∙ map-append agent-text gs _
+          ∙ ap (λ (v : Vec ℕ Global). map agent-text gs ++ (the v (c .replace-rules .result) ∷ [])) (c .replace-masks .ensures .value)
+          ∙ ap (λ (v : Vec Rule Global). map agent-text gs ++ (the (r .masks) v ∷ [])) (c .replace-rules .ensures .value));
     }

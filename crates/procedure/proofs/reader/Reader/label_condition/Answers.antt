@@ -23,8 +23,8 @@ returns-then-self-eq0 c =
     let last : r .left ≡ 0 + 1 = omega (arith, c .if-self-eq0 .taken, c .pre .ready .3) in
     let right : judged (x .c + unnamed x) (want-fits (vec-items (r .sizes)) x) 0 ≡ 0 = search needs in
     label-closes _ x _ _ _ _ _ (c .close-label .ensures) right
-      (ap (λ v. labelled (part r) ++ (label-word v (r .line) ∷ map local-word ts′)) (c .push .last .self .ok .0 ∙ sym (add-zero (length ts′)))
-       ∙ line-goes local-word (labelled (part r)) (λ v. label-word v (r .line)) (vec-items (r .wants)) ts′ _ (r .left) 0 x more (want-word x (vec-items (r .sizes)) (c .pre .kind) right) last)
+    (ap (λ v. labelled (part r) ++ (label-word v (r .line) ∷ map local-word ts′)) (c .push .last .self .ok .0 ∙ sym (add-zero (length ts′)))
+    ∙ line-goes local-word (labelled (part r)) (λ v. label-word v (r .line)) (vec-items (r .wants)) ts′ _ (r .left) 0 x more (want-word x (vec-items (r .sizes)) (c .pre .kind) right) last)
 
 pub returns : need.returns
 returns c =
@@ -37,10 +37,11 @@ returns c =
     taken-at stage.LabelLine _ _ _ _ (c .pre .at) (record {
       right = right;
       says = line-goes local-word (labelled (part r)) (λ v. label-word v (r .line)) (vec-items (r .wants)) (vec-items (c .push .last .self)) _ (r .left) _ x more
-        (want-word x (vec-items (r .sizes)) (c .pre .kind) right) fewer;
-      ready =
-        ( record { numbered = h .numbered; sized = h .sized; sizes = h .sizes; all = h .all; known = h .known }
-        , c .pre .ready .1
-        , c .pre .ready .2
-        , omega (arith, c .pre .ready .3, c .if-self-eq0 .left) );
+          (want-word x (vec-items (r .sizes)) (c .pre .kind) right) fewer;
+      ready = (
+        record { numbered = h .numbered; sized = h .sized; sizes = h .sizes; all = h .all; known = h .known },
+        c .pre .ready .1,
+        c .pre .ready .2,
+        omega (arith, c .pre .ready .3, c .if-self-eq0 .left),
+      );
     })

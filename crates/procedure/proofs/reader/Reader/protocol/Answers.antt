@@ -31,21 +31,25 @@ returns-then-len-self c =
     record {
       right = right;
       says = ap (λ v. (heads (part r) ++ (g ∷ protocol-words 0 ms′)) ++ rules-words (map rule-text v)) (c .pre .ready .2)
-        ∙ append-nil (heads (part r) ++ (g ∷ protocol-words 0 ms′))
-        ∙ protocol-says (heads (part r)) g ms ms′ x (vec-len (r .masks)) (c .pre .kind) right (r .masks .ok .0) more;
-      ready =
-        ( record {
-            numbered = h .numbered;
-            sized = h .sized;
-            sizes = h .sizes;
-            count = h .count;
-            draft = record { one = h .draft .one; few = h .draft .few;
-              allows = subst P (sym more) (all-push _ ms (x .d) (h .draft .allows) (mask-right x (vec-len (r .masks)) right));
-              lands = h .draft .lands };
-            later = h .later;
-          }
-        , search needs
-        , c .pre .ready .3 );
+          ∙ append-nil (heads (part r) ++ (g ∷ protocol-words 0 ms′))
+          ∙ protocol-says (heads (part r)) g ms ms′ x (vec-len (r .masks)) (c .pre .kind) right (r .masks .ok .0) more;
+      ready = (
+        record {
+          numbered = h .numbered;
+          sized = h .sized;
+          sizes = h .sizes;
+          count = h .count;
+          draft = record {
+            one = h .draft .one;
+            few = h .draft .few;
+            allows = subst P (sym more) (all-push _ ms (x .d) (h .draft .allows) (mask-right x (vec-len (r .masks)) right));
+            lands = h .draft .lands;
+          };
+          later = h .later;
+        },
+        search needs,
+        c .pre .ready .3,
+      );
     }
 
 pub returns-else-len-self : need.returns-else-len-self
@@ -60,22 +64,26 @@ returns-else-len-self c =
     let P : List ℕ → Type 0 = λ ms. all-of (λ m. ltb 0 m && ltb m 16) ms ≡ true in
     let right : judged (x .a + x .b) (protocol-fits (vec-len (r .masks)) x) 0 ≡ 0 = search needs in
     let fewer : vec-len (c .push .last .self) < r .locals =
-      omega (arith, c .in-Continue-push .ensures tt .len, c .len-2 .ensures, c .if-len-self .left, c .pre .ready .1) in
+    omega (arith, c .in-Continue-push .ensures tt .len, c .len-2 .ensures, c .if-len-self .left, c .pre .ready .1) in
     taken-at stage.Protocols _ _ _ _ (c .pre .at) (record {
       right = right;
       says = protocol-says (heads (part r)) g ms ms′ x (vec-len (r .masks)) (c .pre .kind) right (r .masks .ok .0) more;
-      ready =
-        ( record {
-            numbered = h .numbered;
-            sized = h .sized;
-            sizes = h .sizes;
-            count = h .count;
-            draft = record { one = h .draft .one; few = h .draft .few;
-              allows = subst P (sym more) (all-push _ ms (x .d) (h .draft .allows) (mask-right x (vec-len (r .masks)) right));
-              lands = h .draft .lands };
-            later = h .later;
-          }
-        , fewer
-        , c .pre .ready .2
-        , c .pre .ready .3 );
+      ready = (
+        record {
+          numbered = h .numbered;
+          sized = h .sized;
+          sizes = h .sizes;
+          count = h .count;
+          draft = record {
+            one = h .draft .one;
+            few = h .draft .few;
+            allows = subst P (sym more) (all-push _ ms (x .d) (h .draft .allows) (mask-right x (vec-len (r .masks)) right));
+            lands = h .draft .lands;
+          };
+          later = h .later;
+        },
+        fewer,
+        c .pre .ready .2,
+        c .pre .ready .3,
+      );
     })

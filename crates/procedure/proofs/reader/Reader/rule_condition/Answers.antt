@@ -30,8 +30,8 @@ returns-then-self-eq0 c =
     let last : r .left ≡ 0 + 1 = omega (arith, c .if-self-eq0 .taken, c .pre .ready .3) in
     let right : judged (x .c + unnamed x) (test-fits (r .locals) (getD (vec-items (r .sizes)) 0 0) (r .n) x) 0 ≡ 0 = search needs in
     rule-closes _ x _ _ _ _ _ (c .close-rule .ensures) right
-      (ap (λ v. ruled (part r) ++ (rule-word v (r .line) ∷ map condition-word ts′)) (c .push .last .self .ok .0 ∙ sym (add-zero (length ts′)))
-       ∙ line-goes condition-word (ruled (part r)) (λ v. rule-word v (r .line)) (vec-items (r .tests)) ts′ _ (r .left) 0 x more (c .condition-of .ensures) last)
+    (ap (λ v. ruled (part r) ++ (rule-word v (r .line) ∷ map condition-word ts′)) (c .push .last .self .ok .0 ∙ sym (add-zero (length ts′)))
+    ∙ line-goes condition-word (ruled (part r)) (λ v. rule-word v (r .line)) (vec-items (r .tests)) ts′ _ (r .left) 0 x more (c .condition-of .ensures) last)
 
 pub returns : need.returns
 returns c =
@@ -44,9 +44,10 @@ returns c =
     taken-at stage.RuleLine _ _ _ _ (c .pre .at) (record {
       right = right;
       says = line-goes condition-word (ruled (part r)) (λ v. rule-word v (r .line)) (vec-items (r .tests)) (vec-items (c .push .last .self)) _ (r .left) _ x more (c .condition-of .ensures) fewer;
-      ready =
-        ( record { numbered = h .numbered; sized = h .sized; sizes = h .sizes; count = h .count; draft = h .draft; later = h .later }
-        , c .pre .ready .1
-        , c .pre .ready .2
-        , omega (arith, c .pre .ready .3, c .if-self-eq0 .left) );
+      ready = (
+        record { numbered = h .numbered; sized = h .sized; sizes = h .sizes; count = h .count; draft = h .draft; later = h .later },
+        c .pre .ready .1,
+        c .pre .ready .2,
+        omega (arith, c .pre .ready .3, c .if-self-eq0 .left),
+      );
     })

@@ -27,11 +27,17 @@ returns c =
     record {
       right = right;
       says = start-says (heads (part r)) ss (vec-items (c .push .last .self)) x (r .states) (c .pre .kind) right byte more;
-      ready =
-        ( record { numbered = h .numbered; sized = h .sized; sizes = h .sizes; all = h .all;
-            known = subst P (sym more) (all-push _ ss (x .c * 256 + x .d) (h .known) (start-right x (r .states) right)) }
-        , some
-        , c .pre .none .0
-        , c .pre .none .1
-        , c .pre .none .2 );
+      ready = (
+        record {
+          numbered = h .numbered;
+          sized = h .sized;
+          sizes = h .sizes;
+          all = h .all;
+          known = subst P (sym more) (all-push _ ss (x .c * 256 + x .d) (h .known) (start-right x (r .states) right));
+        },
+        some,
+        c .pre .none .0,
+        c .pre .none .1,
+        c .pre .none .2,
+      );
     }
