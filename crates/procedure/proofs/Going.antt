@@ -75,8 +75,8 @@ shown stage.RuleLine r h = (sym (r .masks .ok .0) ∙ h .1, h .3)
 shown stage.Starts r h = subst (λ v. 0 < v) (r .starts .ok .0) (h .1)
 shown stage.Labels r h = subst (λ v. 0 < v) (r .labels .ok .0 ∙ sym (length-map (vec-items (r .labels)) label-text)) (h .2)
 shown stage.LabelLine r h = h .3
-shown stage.Goals r h = subst (λ v. 0 < v) (r .goals .ok .0) (h .2)
-shown stage.Done r h = subst (λ v. 0 < v) (r .starts .ok .0) (h .1)
+shown stage.Goals r h = (subst (λ v. 0 < v) (r .goals .ok .0) (h .2), h .0 .aims)
+shown stage.Done r h = h .0 .aims
 
 pub going-fresh : (ws : List Word) (r : Reader) → r .stage ≡ stage.Begin → Fresh r → Going ws ws 0 r
 going-fresh ws r at fresh =
@@ -140,7 +140,7 @@ going-done ws place r g at =
     let whole-words : said (part r) ≡ written (whole (part r)) =
     ap (λ v. told v (part r)) at ∙ ap ended (aimed-body (part r)) ∙ ap (λ v. ended (body v (whole (part r)))) n in
     let is : ws ≡ said (part r) = g .is ∙ append-nil (said (part r)) in
-    (record { is = is ∙ whole-words; flawless = subst Flawless (sym is) (g .flawless) }, ready)
+    (record { is = is ∙ whole-words; aims = ready .0 .aims; flawless = subst Flawless (sym is) (g .flawless) }, ready)
 
 -- What is refused of the words is refused of the file.
 pub reads-refused : (bytes : List ℕ) (e : ReadError) → misfit (length bytes) ≡ false → Read-words (words bytes) (Err e) → Reads bytes (Err e)

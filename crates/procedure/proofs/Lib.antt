@@ -4,3 +4,4 @@ pub mod Says
 pub mod Taking
 pub mod Going
 pub mod Slice
+pub mod Scan

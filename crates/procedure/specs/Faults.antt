@@ -11,7 +11,7 @@ use Rattle.game.specs.declared.fault.Layer.{Layer}
 use Rattle.game.specs.declared.fault.Layer.the-variants as layer
 use Rattle.procedure.specs.Words.{words}
 use Rattle.procedure.specs.Texts.{Description, written}
-use Rattle.procedure.specs.Parts.{Part, said, Shown, known, wrong}
+use Rattle.procedure.specs.Parts.{Part, said, Shown, Aims, known, wrong}
 use Rattle.procedure.specs.declared.stage.Stage.the-variants as stage
 
 -- 1, 2 and 3 are of a word, 4 of a record, 6 and 8 of a system.
@@ -40,9 +40,10 @@ pub record Faulty (ws : List Word) (f : Fault) : Type 0 where
   pub is : ws ≡ said said-part ++ rest
   pub amiss : Amiss said-part rest f
 
--- The words are what a description says, each of them right.
+-- The words are what a description with goal words of kind 8 says, each of them right.
 pub record Sound (ws : List Word) (d : Description) : Type 0 where
   pub is : ws ≡ written d
+  pub aims : Aims (d .goals)
   pub flawless : Flawless ws
 
 -- Lengths in bytes that are refused before any word: none, not whole words, or above 4,096 words.

@@ -5,3 +5,4 @@ pub mod Parts
 pub mod Faults
 pub mod Reader
 pub mod Reading
+pub mod Laws

@@ -6,6 +6,7 @@ use Prim.Native.Nat.{ℕ, _+_, _*_, _<_}
 use lib.Dec.{eqb, ltb}
 use lib.ListN.{length, getD}
 use Rattle.game.specs.declared.goal.Word.{Word}
+use Rattle.systems.specs.First.{all-of}
 use Rattle.systems.specs.declared.line.Condition.{Condition}
 use Rattle.systems.specs.declared.line.LocalState.{LocalState}
 use Rattle.procedure.specs.Words.{w}
@@ -72,6 +73,10 @@ said p = told (p .stage) p
 abbrev pub whole : Part → Description
 whole p = record { agents = p .agents; atoms = p .atoms; starts = p .starts; labels = p .labels; goals = p .goals }
 
+-- Words of kind 8.
+abbrev pub Aims : List Word → Type 0
+Aims goals = all-of (λ x. eqb (x .kind) 8) goals ≡ true
+
 -- The stage of a part is the one that its words show.
 abbrev pub Shown : Stage → Part → Type 0
 Shown stage.Begin p = Unit {0}
@@ -82,8 +87,8 @@ Shown stage.RuleLine p = (length (p .masks) ≡ p .locals) × (0 < p .left)
 Shown stage.Starts p = 0 < length (p .starts)
 Shown stage.Labels p = 0 < length (p .labels)
 Shown stage.LabelLine p = 0 < p .left
-Shown stage.Goals p = 0 < length (p .goals)
-Shown stage.Done p = 0 < length (p .starts)
+Shown stage.Goals p = (0 < length (p .goals)) × Aims (p .goals)
+Shown stage.Done p = Aims (p .goals)
 
 -- What a next word is judged by: the stage, the numbers of the system word, the local states of each agent so far and their product,
 -- those of the agent under way and how many masks it has, and the number of words so far.

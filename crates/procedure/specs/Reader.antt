@@ -15,7 +15,7 @@ use Rattle.systems.specs.declared.line.LocalState.{LocalState}
 use Rattle.systems.specs.declared.line.Rule.{Rule}
 use Rattle.systems.specs.declared.line.Label.{Label}
 use Rattle.procedure.specs.Texts.{agent-text, rule-text, label-text, rule-word, label-word, condition-word, local-word}
-use Rattle.procedure.specs.Parts.{Part, Known, told, heads, ruled, labelled, product}
+use Rattle.procedure.specs.Parts.{Part, Known, told, heads, ruled, labelled, product, Aims}
 use Rattle.procedure.specs.Faults.{fault-at}
 use Rattle.procedure.specs.declared.reader.Reader.{Reader}
 use Rattle.procedure.specs.declared.stage.Stage.{Stage}
@@ -124,6 +124,7 @@ pub record Complete (r : Reader) : Type 0 where
   pub sizes : vec-items (r .sizes) ≡ map (λ g. g .locals) (vec-items (r .agents))
   pub all : vec-len (r .agents) ≡ r .n
   pub known : all-of (λ s. ltb s (r .states)) (vec-items (r .starts)) ≡ true
+  pub aims : Aims (vec-items (r .goals))
 
 -- What the reader keeps at each stage.
 abbrev pub Ready : Stage → Reader → Type 0

@@ -2,6 +2,7 @@
 pub mod error;
 mod faults;
 mod kind;
+pub mod laws;
 pub mod procedure;
 mod reader;
 pub mod reading;

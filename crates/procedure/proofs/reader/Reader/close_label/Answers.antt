@@ -27,7 +27,7 @@ returns c =
     record {
       at = refl;
       ready = (
-        record { numbered = h .numbered; sized = h .sized; sizes = h .sizes; all = h .all; known = h .known },
+        record { numbered = h .numbered; sized = h .sized; sizes = h .sizes; all = h .all; known = h .known; aims = h .aims },
         c .pre .begins,
         some,
         c .pre .goals,

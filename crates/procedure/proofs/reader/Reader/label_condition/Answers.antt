@@ -39,7 +39,7 @@ returns c =
       says = line-goes local-word (labelled (part r)) (λ v. label-word v (r .line)) (vec-items (r .wants)) (vec-items (c .push .last .self)) _ (r .left) _ x more
           (want-word x (vec-items (r .sizes)) (c .pre .kind) right) fewer;
       ready = (
-        record { numbered = h .numbered; sized = h .sized; sizes = h .sizes; all = h .all; known = h .known },
+        record { numbered = h .numbered; sized = h .sized; sizes = h .sizes; all = h .all; known = h .known; aims = h .aims },
         c .pre .ready .1,
         c .pre .ready .2,
         omega (arith, c .pre .ready .3, c .if-self-eq0 .left),

@@ -33,6 +33,7 @@ returns c =
           sized = h .sized;
           sizes = h .sizes;
           all = h .all;
+          aims = h .aims;
           known = subst P (sym more) (all-push _ ss (x .c * 256 + x .d) (h .known) (start-right x (r .states) right));
         },
         some,
