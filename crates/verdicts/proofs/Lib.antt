@@ -1,0 +1,5 @@
+mod Counting
+mod Entering
+mod Settling
+mod Reporting
+mod Lines
