@@ -32,7 +32,8 @@ fn run(rt: &LibcRuntime) -> Result<(), AnyError> {
     let heap = rt.alloc();
     let mut buffer = vec![in heap; 0u8; LIMIT]?;
     let length = fill(&mut rt.stdin(), &mut buffer)?;
-    match judge_file(heap, &buffer[0..length]) {
+    buffer.truncate(length);
+    match judge_file(heap, buffer.as_slice()) {
         Ok(lines) => {
             for line in lines.iter() {
                 println!(rt, "{line}")?;
