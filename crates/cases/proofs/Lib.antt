@@ -1,3 +1,5 @@
 pub mod Stepping
 pub mod Writing
 pub mod Sheets
+pub mod Replying
+pub mod Choosing

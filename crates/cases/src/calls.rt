@@ -39,7 +39,11 @@ pub(crate) fn refusal(number: u8) -> Fault
 pub(crate) fn goal_at(goals: &Vec<Goal>, f: usize) -> Goal
     ensures { λ r. ⌜ r ≡ goal-in (vec-items (now (goals .entry))) f ⌝ }
 {
-    if f < goals.len() { goals[f] } else { Goal::True }
+    if f < goals.len() {
+        goals[f]
+    } else {
+        Goal::True
+    }
 }
 
 // A system and a board on which no case could be opened for want of memory.

@@ -3,6 +3,7 @@ pub mod advice;
 pub mod calls;
 pub mod case;
 pub mod plan;
+pub mod reply;
 mod rows;
 pub mod settle;
 pub mod sheet;

@@ -30,7 +30,12 @@ use std::alloc::AllocError;
 use std::alloc::Global;
 
 // The plan of X, G or U over the rows of its operands.
-fn draw_goal<S: System, B: Board>(heap: Global, system: &S, board: &B, goal: Goal) -> Result<Vec<Entry>, AllocError>
+fn draw_goal<S: System, B: Board>(
+    heap: Global,
+    system: &S,
+    board: &B,
+    goal: Goal,
+) -> Result<Vec<Entry>, AllocError>
     requires { ⌜ strategic goal ≡ true ⌝ }
     ensures { λ r. ⌜ made r (λ v. DrawnFor (S·System .means (now (system .entry))) (B·Board .shows (now (board .entry)) .marked) goal (vec-items v)) ⌝ }
 {
@@ -46,7 +51,12 @@ fn draw_goal<S: System, B: Board>(heap: Global, system: &S, board: &B, goal: Goa
         Goal::Until(group, c, d) => {
             let c = row_flags(heap, board, c as usize)?;
             let d = row_flags(heap, board, d as usize)?;
-            draw(heap, system, group, Objective::Until(c.as_slice(), d.as_slice()))
+            draw(
+                heap,
+                system,
+                group,
+                Objective::Until(c.as_slice(), d.as_slice()),
+            )
         }
         _ => unreachable(),
     }
@@ -59,7 +69,11 @@ pub(crate) fn entry_at(entries: &[Entry], state: usize) -> Entry
     if state < entries.len() {
         entries[state]
     } else {
-        Entry { granted: false, rank: 0, choice: 0 }
+        Entry {
+            granted: false,
+            rank: 0,
+            choice: 0,
+        }
     }
 }
 

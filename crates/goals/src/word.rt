@@ -29,7 +29,13 @@ pub fn goal_of(word: Word) -> Goal
 fn goal_word(a: u8, b: u8, c: u8, d: u8) -> Word
     ensures { λ r. ⌜ r ≡ record { kind = 8; a = a; b = b; c = c; d = d } ⌝ }
 {
-    Word { kind: 8, a, b, c, d }
+    Word {
+        kind: 8,
+        a,
+        b,
+        c,
+        d,
+    }
 }
 
 // The word of a goal: 0 in each field that the operator does not use.

@@ -98,20 +98,24 @@ has-sheet (Some p) e = (p, refl)
 module _ (M : Meaning) (law : Lawful M) (m : Model) (fit : Fit M m) (p : Plan) (e : m .plan ≡ Some p) where
   move-of : (s k : ℕ) → s < M .states → s ∈ p .granted → met-by (m .rows) (aim m) s k ≡ false →
       GroupChoice M (group-of (aim m)) s (p .move s) × ((r : ℕ) → Reply M (group-of (aim m)) s r →
-        (M .next s (p .move s + r) < M .states) × (met-by (m .rows) (aim m) (M .next s (p .move s + r)) (suc k) ≡ false → M .next s (p .move s + r) ∈ p .granted))
+      (M .next s (p .move s + r) < M .states) × (met-by (m .rows) (aim m) (M .next s (p .move s + r)) (suc k) ≡ false → M .next s (p .move s + r) ∈ p .granted))
   move-of s k hs hg out =
       let h = row-plan M m fit p e in
       let ai = aim-is m p e in
       let gr : group-of (aim m) ≡ h .group = ap group-of ai ∙ aims-group (m .rows .marked) (goal-at m (p .goal)) (h .group) (h .goal) (h .aims) in
       let mv = moves M (m .rows) (goal-at m (p .goal)) (h .group) (h .goal) (m .rows .marked (p .goal)) (with-replies p (h .sheet .0)) (h .aims) (h .sheet .1)
-            s k hs (sym (h .granted s) ∙ hg) (ap (λ φ. met-by (m .rows) φ s k) (sym ai) ∙ out) in
-      (subst (λ g. GroupChoice M g s (p .move s)) (sym gr) (mv .0), λ r hr.
-        let hr′ = subst (λ g. Reply M g s r) gr hr in
-        let lands = law .lands s (p .move s + r) hs (joint M (h .group) s (p .move s) r (mv .0) hr′) in
-        (lands, λ out′. elim (mv .1 r hr′) [
-          | inl over ↦ absurd (clash over (ap (λ φ. met-by (m .rows) φ (M .next s (p .move s + r)) (suc k)) (sym ai) ∙ out′))
-          | inr stays ↦ h .granted _ ∙ stays
-        ]))
+      s k hs (sym (h .granted s) ∙ hg) (ap (λ φ. met-by (m .rows) φ s k) (sym ai) ∙ out) in (
+        subst (λ g. GroupChoice M g s (p .move s)) (sym gr) (mv .0),
+        λ r hr.
+            let hr′ = subst (λ g. Reply M g s r) gr hr in
+            let lands = law .lands s (p .move s + r) hs (joint M (h .group) s (p .move s) r (mv .0) hr′) in (
+              lands,
+              λ out′. elim (mv .1 r hr′) [
+                | inl over ↦ absurd (clash over (ap (λ φ. met-by (m .rows) φ (M .next s (p .move s + r)) (suc k)) (sym ai) ∙ out′))
+                | inr stays ↦ h .granted _ ∙ stays
+              ],
+            ),
+      )
 
 begin-kept : (M : Meaning) (w : World) (s : ℕ) → All Fails (refusals M w (begin s)) → Kept M w → Kept M (with-plays w (w .plays ++ begun s ∷ []))
 begin-kept M w s t k =
@@ -121,9 +125,18 @@ begin-kept M w s t k =
     let hg = granted-by m p s e (t .1 .1 .1 .0) in
     record {
       fit = k .fit;
-      plays = all-push (InPlay M m) (w .plays) (begun s) (k .plays) (p, e, record {
-        begins = (hs, hg); stands = (hs, refl); counts = refl; followed = tt; granted = λ _. hg; announces = λ a et. absurd (never a et);
-      });
+      plays = all-push (InPlay M m) (w .plays) (begun s) (k .plays) (
+        p,
+        e,
+        record {
+          begins = (hs, hg);
+          stands = (hs, refl);
+          counts = refl;
+          followed = tt;
+          granted = λ _. hg;
+          announces = λ a et. absurd (never a et);
+        },
+      );
       few = omega (arith, length-push (w .plays) (begun s), leb-false _ _ (t .1 .1 .1 .1 .0));
     }
 
@@ -138,9 +151,13 @@ announce-kept M law w i (Some q) e r w′ t (p, ep, er, ew) k =
     let out = t .1 .1 .1 .0 in
     let mv = move-of M law m (k .fit) p ep (q .state) (q .steps) (pl .stands .0) (pl .granted out) out in
     let new : Played M (group-of (aim m)) p (met-by (m .rows) (aim m)) (announced q (p .move (q .state))) = record {
-          begins = pl .begins; stands = pl .stands; counts = pl .counts; followed = pl .followed; granted = pl .granted;
-          announces = λ a et. let eq : p .move (q .state) ≡ a = cc in (sym eq, subst (GroupChoice M (group-of (aim m)) (q .state)) eq (mv .0), out);
-        } in
+      begins = pl .begins;
+      stands = pl .stands;
+      counts = pl .counts;
+      followed = pl .followed;
+      granted = pl .granted;
+      announces = λ a et. let eq : p .move (q .state) ≡ a = cc in (sym eq, subst (GroupChoice M (group-of (aim m)) (q .state)) eq (mv .0), out);
+    } in
     subst (Kept M) (sym ew) (record {
       fit = k .fit;
       plays = all-set (InPlay M m) (w .plays) i (announced q (p .move (q .state))) (p, ep, new) (k .plays);
@@ -164,19 +181,20 @@ tell-kept M law w i b (Some x) e r w′ t h k =
     let mv = move-of M law m (k .fit) p ep (q .state) (q .steps) (pl .stands .0) hg out in
     let on = mv .1 b rb in
     let new : Played M g p over (answered M q a b) = record {
-          begins = pl .begins;
-          stands = (subst (λ c. M .next (q .state) (c + b) < M .states) (sym is-move) (on .0), ap (λ s. M .next s (a + b)) (pl .stands .1));
-          counts = ap suc (pl .counts);
-          followed =
-            (subst (λ s. s ∈ p .granted) (pl .stands .1) hg,
-             subst₂ (λ s n. over s n ≡ false) (pl .stands .1) (pl .counts) out,
-             subst (λ s. a ≡ p .move s) (pl .stands .1) is-move,
-             subst (λ s. GroupChoice M g s a) (pl .stands .1) ga,
-             subst (λ s. Reply M g s b) (pl .stands .1) rb,
-             pl .followed);
-          granted = λ out′. subst (λ c. M .next (q .state) (c + b) ∈ p .granted) (sym is-move) (on .1 (subst (λ c. over (M .next (q .state) (c + b)) (suc (q .steps)) ≡ false) is-move out′));
-          announces = λ c ec. absurd (never c ec);
-        } in
+      begins = pl .begins;
+      stands = (subst (λ c. M .next (q .state) (c + b) < M .states) (sym is-move) (on .0), ap (λ s. M .next s (a + b)) (pl .stands .1));
+      counts = ap suc (pl .counts);
+      followed = (
+        subst (λ s. s ∈ p .granted) (pl .stands .1) hg,
+        subst₂ (λ s n. over s n ≡ false) (pl .stands .1) (pl .counts) out,
+        subst (λ s. a ≡ p .move s) (pl .stands .1) is-move,
+        subst (λ s. GroupChoice M g s a) (pl .stands .1) ga,
+        subst (λ s. Reply M g s b) (pl .stands .1) rb,
+        pl .followed,
+      );
+      granted = λ out′. subst (λ c. M .next (q .state) (c + b) ∈ p .granted) (sym is-move) (on .1 (subst (λ c. over (M .next (q .state) (c + b)) (suc (q .steps)) ≡ false) is-move out′));
+      announces = λ c ec. absurd (never c ec);
+    } in
     subst (Kept M) (sym (h .1)) (record {
       fit = k .fit;
       plays = all-set (InPlay M m) (w .plays) i (answered M q a b) (p, ep, new) (k .plays);

@@ -53,10 +53,18 @@ aims-exist R (UNTIL g c d) e = (g, until (R c) (R d), of-until g c d)
 plan-exists : (M : Meaning) → Lawful M → (m : Model) (f : ℕ) → f < m .settled → strategic (goal-at m f) ≡ true → (p : Plan) × (p .goal ≡ f) × IsPlan M m p
 plan-exists M law m f hf st =
     let (g, a, aims) = aims-exist (m .rows .marked) (goal-at m f) st in
-    let (P, set, (S, sheet)) = sheets-exist M law g a in
-    (record { goal = f; granted = P; rank = S .rank; move = S .move }, refl, record {
-      settled = hf; group = g; objective = a; aims = aims; set = set; sheet = (S .reply, sheet);
-    })
+    let (P, set, (S, sheet)) = sheets-exist M law g a in (
+      record { goal = f; granted = P; rank = S .rank; move = S .move },
+      refl,
+      record {
+        settled = hf;
+        group = g;
+        objective = a;
+        aims = aims;
+        set = set;
+        sheet = (S .reply, sheet);
+      },
+    )
 
 does-exist : (M : Meaning) → Lawful M → (w : World) (c : Call) → Kept M w → All Fails (refusals M w c) → Answered M w c
 does-exist M law w (enter x) k t = (number (length (w .model .goals)), with-model w (entered (w .model) (goal-of x)), (refl, refl))

@@ -42,8 +42,8 @@ module _ (M : Meaning) (law : Lawful M) (g : ℕ) (p : Plan) (over : ℕ → ℕ
     visited (x ∷ past) (gr, out, mv, ga, rb, f) a j hj = elim (cases-lt j (length past)) [
       | inl lt ↦ visited past f (a .1) j lt
       | inr ge ↦
-        let e : length past ≡ j = omega arith in
-        subst (λ k. (π k < M .states) × (π k ∈ p .granted) × (over (π k) k ≡ false)) e
+          let e : length past ≡ j = omega arith in
+          subst (λ k. (π k < M .states) × (π k ∈ p .granted) × (over (π k) k ≡ false)) e
           (subst (λ t. (t < M .states) × (t ∈ p .granted) × (over t (length past) ≡ false)) (sym (along-end past (a .1))) (led-known past f, gr, out))
     ]
 
@@ -66,32 +66,37 @@ module _ (M : Meaning) (law : Lawful M) (b : Rows) (g : ℕ) (p : Plan) (P : Sta
       ((λ m. let le = leb-true 1 (q .steps) m in (le, one le), λ m. le-leb 1 (q .steps) (m .0)), λ x. clash (one (x .0)) (x .1))
   meets ψ φ (of-always g′ c) sheet set q pl π a =
       let now : π (q .steps) ≡ q .state = ap π (pl .counts) ∙ along-end M law g p (met-by b (ALWAYS g c)) (q .start) (pl .begins .0) π (q .told) a ∙ sym (pl .stands .1) in
-      let in-c : (t : ℕ) → t < M .states → t ∈ p .granted → t ∈ b .marked c = λ t ht hg. let (Y, ins, y) = set .decides t ht .0 (sym (gr t ht) ∙ hg) in ins t ht y .0 in
-      ((λ m. absurd (both-ways false refl m), λ m. absurd m), λ (j, le, bad). elim (cases-lt j (q .steps)) [
-        | inl lt ↦
-          let v = visited M law g p (met-by b (ALWAYS g c)) (q .start) (pl .begins .0) π (q .told) (pl .followed) a j (omega (arith, pl .counts)) in
-          clash (in-c (π j) (v .0) (v .1)) bad
-        | inr ge ↦
-          let e : q .steps ≡ j = omega arith in
-          clash (in-c (q .state) (pl .stands .0) (pl .granted refl)) (subst (λ t. t ∉ b .marked c) now (subst (λ k. π k ∉ b .marked c) (sym e) bad))
-      ])
+      let in-c : (t : ℕ) → t < M .states → t ∈ p .granted → t ∈ b .marked c = λ t ht hg. let (Y, ins, y) = set .decides t ht .0 (sym (gr t ht) ∙ hg) in ins t ht y .0 in (
+        (λ m. absurd (both-ways false refl m), λ m. absurd m),
+        λ (j, le, bad). elim (cases-lt j (q .steps)) [
+          | inl lt ↦
+              let v = visited M law g p (met-by b (ALWAYS g c)) (q .start) (pl .begins .0) π (q .told) (pl .followed) a j (omega (arith, pl .counts)) in
+              clash (in-c (π j) (v .0) (v .1)) bad
+          | inr ge ↦
+              let e : q .steps ≡ j = omega arith in
+              clash (in-c (q .state) (pl .stands .0) (pl .granted refl)) (subst (λ t. t ∉ b .marked c) now (subst (λ k. π k ∉ b .marked c) (sym e) bad))
+        ],
+      )
   meets ψ φ (of-until g′ c d) sheet set q pl π a =
       let now : π (q .steps) ≡ q .state = ap π (pl .counts) ∙ along-end M law g p (met-by b (UNTIL g c d)) (q .start) (pl .begins .0) π (q .told) a ∙ sym (pl .stands .1) in
       let in-c : (t : ℕ) → t < M .states → t ∈ p .granted → t ∉ b .marked d → t ∈ b .marked c = λ t ht hg nd. granted-c M law g (b .marked c) (b .marked d) P (set .decides) t ht (sym (gr t ht) ∙ hg) nd in
       let seen : (j : ℕ) → j < q .steps → (π j < M .states) × (π j ∈ p .granted) × (π j ∉ b .marked d) =
-            λ j lt. visited M law g p (met-by b (UNTIL g c d)) (q .start) (pl .begins .0) π (q .told) (pl .followed) a j (omega (arith, pl .counts)) in
-      ((λ m. (q .steps, omega arith, subst (λ t. t ∈ b .marked d) (sym now) m, λ i lt. let v = seen i lt in in-c (π i) (v .0) (v .1) (v .2)),
-        λ (j, le, hd, all). elim (cases-lt j (q .steps)) [
-          | inl lt ↦ absurd (clash hd (seen j lt .2))
-          | inr ge ↦ let e : j ≡ q .steps = omega arith in subst (λ t. t ∈ b .marked d) now (subst (λ k. π k ∈ b .marked d) e hd)
-        ]),
-       λ (j, le, bad, none). elim (cases-lt j (q .steps)) [
+      λ j lt. visited M law g p (met-by b (UNTIL g c d)) (q .start) (pl .begins .0) π (q .told) (pl .followed) a j (omega (arith, pl .counts)) in (
+        (
+          λ m. (q .steps, omega arith, subst (λ t. t ∈ b .marked d) (sym now) m, λ i lt. let v = seen i lt in in-c (π i) (v .0) (v .1) (v .2)),
+          λ (j, le, hd, all). elim (cases-lt j (q .steps)) [
+            | inl lt ↦ absurd (clash hd (seen j lt .2))
+            | inr ge ↦ let e : j ≡ q .steps = omega arith in subst (λ t. t ∈ b .marked d) now (subst (λ k. π k ∈ b .marked d) e hd)
+          ],
+        ),
+        λ (j, le, bad, none). elim (cases-lt j (q .steps)) [
           | inl lt ↦ let v = seen j lt in clash (in-c (π j) (v .0) (v .1) (v .2)) bad
           | inr ge ↦
-            let e : j ≡ q .steps = omega arith in
-            let nd : q .state ∉ b .marked d = subst (λ t. t ∉ b .marked d) now (subst (λ k. π k ∉ b .marked d) e (none j (omega arith))) in
-            clash (in-c (q .state) (pl .stands .0) (pl .granted nd) nd) (subst (λ t. t ∉ b .marked c) now (subst (λ k. π k ∉ b .marked c) e bad))
-        ])
+              let e : j ≡ q .steps = omega arith in
+              let nd : q .state ∉ b .marked d = subst (λ t. t ∉ b .marked d) now (subst (λ k. π k ∉ b .marked d) e (none j (omega arith))) in
+              clash (in-c (q .state) (pl .stands .0) (pl .granted nd) nd) (subst (λ t. t ∉ b .marked c) now (subst (λ k. π k ∉ b .marked c) e bad))
+        ],
+      )
 
   -- U: each step takes one from the rank
   pub nearer : (c d : ℕ) → IsSheet M g (until (b .marked c) (b .marked d)) P (with-replies p f) → (s : ℕ) → s < M .states → (told : List (ℕ × ℕ)) →

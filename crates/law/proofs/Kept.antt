@@ -41,9 +41,9 @@ pub record Fit (M : Meaning) (m : Model) : Type 0 where
 pub set-of : (M : Meaning) (m : Model) → Fit M m → (f : ℕ) → f < m .settled → (g : ℕ) (φ : Objective) → Aims (m .rows .marked) (goal-at m f) g φ → IsSetOf M g φ (m .rows .marked f)
 set-of M m fit f hf g φ aims = record {
   decides = λ s hs.
-    let r = fit .right f hf s hs in
-    let a = aims-holds M (m .rows .marked) (goal-at m f) g φ s aims in
-    (λ x. a .0 (r .0 x), λ x. r .1 (a .1 x));
+      let r = fit .right f hf s hs in
+      let a = aims-holds M (m .rows .marked) (goal-at m f) g φ s aims in
+      (λ x. a .0 (r .0 x), λ x. r .1 (a .1 x));
   past = fit .past f hf;
 }
 
@@ -88,8 +88,8 @@ settles M m m′ same (P, set, e) = subst (Settles M m) (sym e) (record {
   states = refl;
   rows = refl;
   here = λ room t ht.
-    let is : settled-as m P .rows .marked (m .settled) t ≡ P t = mine t ∙ and-left (known (m .rows) (m .settled) t) (P t) (and-from _ _ (lt-ltb _ _ room) (lt-ltb _ _ (omega (arith, same)))) in
-    (λ x. set .decides t ht .0 (sym is ∙ x), λ x. is ∙ set .decides t ht .1 x);
+      let is : settled-as m P .rows .marked (m .settled) t ≡ P t = mine t ∙ and-left (known (m .rows) (m .settled) t) (P t) (and-from _ _ (lt-ltb _ _ room) (lt-ltb _ _ (omega (arith, same)))) in
+      (λ x. set .decides t ht .0 (sym is ∙ x), λ x. is ∙ set .decides t ht .1 x);
   past = λ t ge. mine t ∙ and-right (known (m .rows) (m .settled) t) (P t) (set .past t ge);
   other = λ q t ne. cond-false (eqb q (m .settled)) _ _ (ne-eqb _ _ ne);
 })
@@ -132,7 +132,7 @@ play-same M m m′ q plan goal rows (p, e, h) =
     let e′ : m′ .plan ≡ Some p = plan ∙ e in
     let there : aim m′ ≡ aim m = aim-is m′ p e′ ∙ goal p e ∙ sym (aim-is m p e) in
     let over : met-by (m′ .rows) (aim m′) ≡ met-by (m .rows) (aim m) =
-          ap (met-by (m′ .rows)) (aim-is m′ p e′ ∙ goal p e) ∙ fun-ext (λ s. fun-ext (λ k. rows p e s k)) ∙ ap (met-by (m .rows)) (sym (aim-is m p e)) in
+    ap (met-by (m′ .rows)) (aim-is m′ p e′ ∙ goal p e) ∙ fun-ext (λ s. fun-ext (λ k. rows p e s k)) ∙ ap (met-by (m .rows)) (sym (aim-is m p e)) in
     (p, e′, subst₂ (λ φ o. Played M (group-of φ) p o q) (sym there) (sym over) h)
 
 pub fit-entered : (M : Meaning) (m : Model) (φ : Goal) → length (m .goals) < m .rows .rows → earlier (length (m .goals)) φ ≡ true → Fit M m → Fit M (entered m φ)
@@ -145,15 +145,15 @@ fit-entered M m φ low early k =
       ordered = λ f hf. elim (cases-lt f (length (m .goals))) [
         | inl lt ↦ ap (earlier f) (old f lt) ∙ k .ordered f lt
         | inr ge ↦
-          let e : f ≡ length (m .goals) = omega arith in
-          subst (λ n. earlier n (goal-at (entered m φ) n) ≡ true) (sym e) (ap (earlier (length (m .goals))) (getD-at (m .goals) φ [] TRUE (length (m .goals)) refl) ∙ early)
+            let e : f ≡ length (m .goals) = omega arith in
+            subst (λ n. earlier n (goal-at (entered m φ) n) ≡ true) (sym e) (ap (earlier (length (m .goals))) (getD-at (m .goals) φ [] TRUE (length (m .goals)) refl) ∙ early)
       ];
       right = λ f hf s hs. subst (λ ψ. s ∈ m .rows .marked f ↔ Holds M (m .rows .marked) ψ s) (sym (old f (omega (arith, k .within)))) (k .right f hf s hs);
       past = k .past;
       sheet = λ p e.
-        let h = k .sheet p e in
-        let lt : p .goal < length (m .goals) = omega (arith, h .settled, k .within) in
-        plan-same M m (entered m φ) p h (h .settled) (old (p .goal) lt) (k .ordered (p .goal) lt) (λ q hq. refl);
+          let h = k .sheet p e in
+          let lt : p .goal < length (m .goals) = omega (arith, h .settled, k .within) in
+          plan-same M m (entered m φ) p h (h .settled) (old (p .goal) lt) (k .ordered (p .goal) lt) (λ q hq. refl);
       sound = k .sound;
     }
 
@@ -165,9 +165,10 @@ module _ (M : Meaning) (m m′ : Model) (k : Fit M m) (h : Settles M m m′) whe
   settled-goal f = ap (λ l. getD l f TRUE) (h .goals)
 
   over-new : (f s : ℕ) → f < length (m .goals) → f ≤ m .settled → Holds M (m .rows .marked) (goal-at m f) s ↔ Holds M (m′ .rows .marked) (goal-at m f) s
-  over-new f s hf low =
-      (holds-same M (m′ .rows .marked) (m .rows .marked) f (λ c hc. sym (settled-rows c (λ e. omega arith))) (goal-at m f) (k .ordered f hf) s,
-       holds-same M (m .rows .marked) (m′ .rows .marked) f (λ c hc. settled-rows c (λ e. omega arith)) (goal-at m f) (k .ordered f hf) s)
+  over-new f s hf low = (
+    holds-same M (m′ .rows .marked) (m .rows .marked) f (λ c hc. sym (settled-rows c (λ e. omega arith))) (goal-at m f) (k .ordered f hf) s,
+    holds-same M (m .rows .marked) (m′ .rows .marked) f (λ c hc. settled-rows c (λ e. omega arith)) (goal-at m f) (k .ordered f hf) s,
+  )
 
   pub fit-settled : m .settled < length (m .goals) → m .rows .states ≡ M .states → Fit M m′
   fit-settled more same = record {
@@ -176,23 +177,23 @@ module _ (M : Meaning) (m m′ : Model) (k : Fit M m) (h : Settles M m m′) whe
     ordered = λ f hf. ap (earlier f) (settled-goal f) ∙ k .ordered f (omega (arith, ap length (h .goals)));
     right = λ f hf s hs. subst (λ ψ. s ∈ m′ .rows .marked f ↔ Holds M (m′ .rows .marked) ψ s) (sym (settled-goal f)) (elim (cases-eq f (m .settled)) [
       | inl e ↦
-        let o = over-new f s (omega arith) (omega arith) in
-        let a : s ∈ m′ .rows .marked f ↔ Holds M (m .rows .marked) (goal-at m f) s = subst (λ n. s ∈ m′ .rows .marked n ↔ Holds M (m .rows .marked) (goal-at m n) s) (sym e) (h .here (omega (arith, k .room)) s hs) in
-        (λ x. o .0 (a .0 x), λ x. a .1 (o .1 x))
+          let o = over-new f s (omega arith) (omega arith) in
+          let a : s ∈ m′ .rows .marked f ↔ Holds M (m .rows .marked) (goal-at m f) s = subst (λ n. s ∈ m′ .rows .marked n ↔ Holds M (m .rows .marked) (goal-at m n) s) (sym e) (h .here (omega (arith, k .room)) s hs) in
+          (λ x. o .0 (a .0 x), λ x. a .1 (o .1 x))
       | inr ne ↦
-        let lt : f < m .settled = omega (arith, h .settled) in
-        let o = over-new f s (omega arith) (omega arith) in
-        let a = k .right f lt s hs in
-        (λ x. o .0 (a .0 (sym (h .other f s ne) ∙ x)), λ x. h .other f s ne ∙ a .1 (o .1 x))
+          let lt : f < m .settled = omega (arith, h .settled) in
+          let o = over-new f s (omega arith) (omega arith) in
+          let a = k .right f lt s hs in
+          (λ x. o .0 (a .0 (sym (h .other f s ne) ∙ x)), λ x. h .other f s ne ∙ a .1 (o .1 x))
     ]);
     past = λ f hf s hs. elim (cases-eq f (m .settled)) [
       | inl e ↦ subst (λ n. s ∉ m′ .rows .marked n) (sym e) (h .past s hs)
       | inr ne ↦ h .other f s ne ∙ k .past f (omega (arith, h .settled)) s hs
     ];
     sheet = λ p e.
-      let old = k .sheet p (sym (h .plan) ∙ e) in
-      let lt = old .settled in
-      plan-same M m m′ p old (omega (arith, h .settled)) (settled-goal (p .goal)) (k .ordered (p .goal) (omega (arith, k .within))) (λ q hq. settled-rows q (λ eq. omega arith));
+        let old = k .sheet p (sym (h .plan) ∙ e) in
+        let lt = old .settled in
+        plan-same M m m′ p old (omega (arith, h .settled)) (settled-goal (p .goal)) (k .ordered (p .goal) (omega (arith, k .within))) (λ q hq. settled-rows q (λ eq. omega arith));
     sound = record {
       few = omega (arith, k .sound .few, h .rows);
       some = λ more. let z = k .sound .some (omega (arith, h .rows)) in (omega (arith, h .states, z .0), omega (arith, h .states, z .1));
@@ -209,14 +210,19 @@ module _ (M : Meaning) (m m′ : Model) (k : Fit M m) (h : Settles M m m′) whe
   pub play-settled : (q : Play) → m .settled < length (m .goals) → InPlay M m q → InPlay M m′ q
   play-settled q more = play-same M m m′ q (h .plan) (λ p e. settled-goal (p .goal))
       (λ p e. let low = k .sheet p e .settled in
-        met-same (m .rows) (m′ .rows) (p .goal) (goal-at m (p .goal)) (k .ordered (p .goal) (omega arith)) (λ c t hc. h .other c t (λ eq. omega arith)))
+      met-same (m .rows) (m′ .rows) (p .goal) (goal-at m (p .goal)) (k .ordered (p .goal) (omega arith)) (λ c t hc. h .other c t (λ eq. omega arith)))
 
 pub fit-planned : (M : Meaning) (m : Model) (p : Plan) → IsPlan M m p → Fit M m → Fit M (planned m p)
 fit-planned M m p h k = record {
-  within = k .within; room = k .room; ordered = k .ordered; right = k .right; past = k .past; sound = k .sound;
+  within = k .within;
+  room = k .room;
+  ordered = k .ordered;
+  right = k .right;
+  past = k .past;
+  sound = k .sound;
   sheet = λ p′ e.
-    let same : p ≡ p′ = cc in
-    subst (IsPlan M (planned m p)) same (plan-same M m (planned m p) p h (h .settled) refl (k .ordered (p .goal) (omega (arith, h .settled, k .within))) (λ q hq. refl));
+      let same : p ≡ p′ = cc in
+      subst (IsPlan M (planned m p)) same (plan-same M m (planned m p) p h (h .settled) refl (k .ordered (p .goal) (omega (arith, h .settled, k .within))) (λ q hq. refl));
 }
 
 kept-below : (k : ℕ) (o : Option Plan) (p : Plan) → below k o ≡ Some p → (o ≡ Some p) × (p .goal < k)
@@ -238,8 +244,8 @@ fit-struck M m n le k =
       right = λ f hf s hs. subst (λ ψ. s ∈ m .rows .marked f ↔ Holds M (m .rows .marked) ψ s) (sym (old f (omega arith))) (k .right f (omega arith) s hs);
       past = λ f hf. k .past f (omega arith);
       sheet = λ p e.
-        let (e′, lt) = kept-below n (m .plan) p e in
-        let h = k .sheet p e′ in
-        plan-same M m (struck m n) p h (omega (arith, h .settled)) (old (p .goal) lt) (k .ordered (p .goal) (omega arith)) (λ q hq. refl);
+          let (e′, lt) = kept-below n (m .plan) p e in
+          let h = k .sheet p e′ in
+          plan-same M m (struck m n) p h (omega (arith, h .settled)) (old (p .goal) lt) (k .ordered (p .goal) (omega arith)) (λ q hq. refl);
       sound = k .sound;
     }

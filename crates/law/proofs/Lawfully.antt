@@ -34,7 +34,11 @@ use Rattle.law.proofs.Journeys.{aims-unique, meets, nearer}
 pub opened-kept : (M : Meaning) (b : Rows) → Sound b → Kept M (opened b)
 opened-kept M b sound = record {
   fit = record {
-    within = omega arith; room = omega arith; ordered = λ f hf. absurd (omega arith); right = λ f hf. absurd (omega arith); past = λ f hf. absurd (omega arith);
+    within = omega arith;
+    room = omega arith;
+    ordered = λ f hf. absurd (omega arith);
+    right = λ f hf. absurd (omega arith);
+    past = λ f hf. absurd (omega arith);
     sheet = λ p e. let z : _≡_ {A = ℕ} 0 1 = cc in absurd (omega arith);
     sound = sound;
   };
@@ -58,7 +62,7 @@ module _ (M : Meaning) (law : Lawful M) (m : Model) (fit : Fit M m) (q : Play) (
   in-time g c d is =
       let h = row-plan M m fit p e in
       let there : Aims (m .rows .marked) (goal-at m (p .goal)) g (until (m .rows .marked c) (m .rows .marked d)) =
-            subst (λ ψ. Aims (m .rows .marked) ψ g (until (m .rows .marked c) (m .rows .marked d))) (sym is ∙ aim-is m p e) (of-until g c d) in
+      subst (λ ψ. Aims (m .rows .marked) ψ g (until (m .rows .marked c) (m .rows .marked d))) (sym is ∙ aim-is m p e) (of-until g c d) in
       let u = aims-unique (m .rows .marked) (goal-at m (p .goal)) (h .group) (h .goal) g _ (h .aims) there in
       let sheet = subst₂ (λ x y. IsSheet M x y (m .rows .marked (p .goal)) (with-replies p (h .sheet .0))) (u .0) (u .1) (h .sheet .1) in
       let pl′ = subst (λ ψ. Played M (group-of ψ) p (met-by (m .rows) ψ) q) is pl in
@@ -80,9 +84,9 @@ promised M law w k =
       spelled = λ f hf. spelled (m .goals) (fit .ordered) f hf;
       decides = λ f hf s hs. decided M law (m .rows .marked) (m .goals) (m .settled) (λ c hc. fit .ordered c (omega (arith, fit .within))) (fit .right) (suc f) f (omega arith) hf s hs;
       ensures = λ f hf g φ aims s hs.
-        let set = set-of M m fit f hf g φ aims in
-        let both = granted-where-ensured M law g φ s hs in
-        ((λ x. both .0 (set .decides s hs .0 x), λ x. set .decides s hs .1 (both .1 x)), λ S sheet. strategy-theorem M law g φ (m .rows .marked f) set S sheet s hs);
+          let set = set-of M m fit f hf g φ aims in
+          let both = granted-where-ensured M law g φ s hs in
+          ((λ x. both .0 (set .decides s hs .0 x), λ x. set .decides s hs .1 (both .1 x)), λ S sheet. strategy-theorem M law g φ (m .rows .marked f) set S sheet s hs);
       sheet = fit .sheet;
       plays = k .plays;
       meetings = all-weaker (InPlay M m) (Meeting M m) (meeting M law m fit) (w .plays) (k .plays);

@@ -102,7 +102,7 @@ module _ (M : Meaning) (w v : World) (h : Same M w v) (k : Kept M w) where
           let z = aim-is (w .model) p e in
           ap (λ φ. met-by (w .model .rows) φ s n) z ∙
           sym (met-same (w .model .rows) (v .model .rows) (p .goal) (goal-at (w .model) (p .goal)) (k .fit .ordered (p .goal) (omega (arith, k .fit .within)))
-            (λ q t hq. ap (λ (X : States). X t) (sym (h .marks q (omega arith)))) s n) ∙
+          (λ q t hq. ap (λ (X : States). X t) (sym (h .marks q (omega arith)))) s n) ∙
           ap (λ φ. met-by (v .model .rows) φ s n) (sym z)
 
   boardless : no-board M (w .model) ≡ no-board M (v .model)
@@ -207,15 +207,16 @@ module _ (M : Meaning) (law : Lawful M) (w v : World) (h : Same M w v) (k : Kept
       let early = k .fit .ordered f more in
       let room : m .settled < m .rows .rows = omega (arith, k .fit .room) in
       let there : (t : ℕ) → t < M .states → t ∈ v′ .model .rows .marked f ↔ Holds M (n .rows .marked) (goal-at m f) t =
-            λ t ht. subst (λ φ. t ∈ v′ .model .rows .marked f ↔ Holds M (n .rows .marked) φ t) (sym (goal-same M w v h k f))
-              (subst (λ x. t ∈ v′ .model .rows .marked x ↔ Holds M (n .rows .marked) (goal-at n x) t) (sym (h .settled)) (b .here (omega (arith, h .settled, h .rows)) t ht)) in
+      λ t ht. subst (λ φ. t ∈ v′ .model .rows .marked f ↔ Holds M (n .rows .marked) φ t) (sym (goal-same M w v h k f))
+      (subst (λ x. t ∈ v′ .model .rows .marked x ↔ Holds M (n .rows .marked) (goal-at n x) t) (sym (h .settled)) (b .here (omega (arith, h .settled, h .rows)) t ht)) in
       let at : (t : ℕ) → w′ .model .rows .marked f t ≡ v′ .model .rows .marked f t =
-            λ t. elim (cases-lt t (M .states)) [
-              | inl lt ↦ same-bool _ _ (
-                  (λ x. there t lt .1 (holds-same M (n .rows .marked) (m .rows .marked) f (λ c hc. h .marks c hc) (goal-at m f) early t (a .here room t lt .0 x))),
-                  (λ x. a .here room t lt .1 (holds-same M (m .rows .marked) (n .rows .marked) f (λ c hc. sym (h .marks c hc)) (goal-at m f) early t (there t lt .0 x))))
-              | inr ge ↦ a .past t ge ∙ sym (subst (λ x. t ∉ v′ .model .rows .marked x) (sym (h .settled)) (b .past t ge))
-            ] in
+      λ t. elim (cases-lt t (M .states)) [
+        | inl lt ↦ same-bool _ _ (
+          (λ x. there t lt .1 (holds-same M (n .rows .marked) (m .rows .marked) f (λ c hc. h .marks c hc) (goal-at m f) early t (a .here room t lt .0 x))),
+          (λ x. a .here room t lt .1 (holds-same M (m .rows .marked) (n .rows .marked) f (λ c hc. sym (h .marks c hc)) (goal-at m f) early t (there t lt .0 x))),
+        )
+        | inr ge ↦ a .past t ge ∙ sym (subst (λ x. t ∉ v′ .model .rows .marked x) (sym (h .settled)) (b .past t ge))
+      ] in
       record {
         goals = a .goals ∙ h .goals ∙ sym (b .goals);
         settled = a .settled ∙ ap suc (h .settled) ∙ sym (b .settled);
@@ -236,8 +237,8 @@ module _ (M : Meaning) (law : Lawful M) (w v : World) (h : Same M w v) (k : Kept
   plan-same-at p q f hf ep eq i j =
       let low : q .goal < w .model .settled = omega arith in
       plans-alike M law (w .model) p q i
-        (plan-same M (v .model) (w .model) q j low (goal-same M w v h k (q .goal)) (early-v (q .goal) low) (λ c hc. h .marks c (omega arith)))
-        (ep ∙ sym eq)
+      (plan-same M (v .model) (w .model) q j low (goal-same M w v h k (q .goal)) (early-v (q .goal) low) (λ c hc. h .marks c (omega arith)))
+      (ep ∙ sym eq)
 
   announce-same : (i : ℕ) (o : Option Play) (r r′ : Answer) (w′ v′ : World) → All Fails (announcing M w o) → Announces w i o r w′ → Announces v i o r′ v′ → (r ≡ r′) × Same M w′ v′
   announce-same i None r r′ w′ v′ t (er, ew) (er′, ev) = (er ∙ sym er′, subst₂ (Same M) (sym ew) (sym ev) h)
@@ -245,9 +246,10 @@ module _ (M : Meaning) (law : Lawful M) (w v : World) (h : Same M w v) (k : Kept
       let sp = both-some M (w .model .plan) (v .model .plan) p p′ ep ep′ (h .plans) in
       let hs = leb-false _ _ (t .1 .1 .0) in
       let hg = granted-by (w .model) p (q .state) ep (t .1 .1 .1 .1 .0) in
-      let em = sp .move (q .state) hs hg in
-      (er ∙ ap₂ entry (sp .rank (q .state) hs) em ∙ sym er′,
-       subst₂ (Same M) (sym ew) (sym ev) (with-same _ _ (ap₂ (λ qs a. set qs i (announced q a)) (h .plays) em)))
+      let em = sp .move (q .state) hs hg in (
+        er ∙ ap₂ entry (sp .rank (q .state) hs) em ∙ sym er′,
+        subst₂ (Same M) (sym ew) (sym ev) (with-same _ _ (ap₂ (λ qs a. set qs i (announced q a)) (h .plays) em)),
+      )
 
   tell-same : (i b : ℕ) (o : Option (Play × ℕ)) (r r′ : Answer) (w′ v′ : World) → Tells M w i b o r w′ → Tells M v i b o r′ v′ → (r ≡ r′) × Same M w′ v′
   tell-same i b None r r′ w′ v′ (er, ew) (er′, ev) = (er ∙ sym er′, subst₂ (Same M) (sym ew) (sym ev) h)
@@ -260,18 +262,35 @@ module _ (M : Meaning) (law : Lawful M) (w v : World) (h : Same M w v) (k : Kept
       (er ∙ ap (outcome (q .steps)) (met-equal M w v h k (q .state) (q .steps)) ∙ sym er′, subst₂ (Same M) (sym ew) (sym ev) (with-same _ _ (ap (λ qs. removed qs i) (h .plays))))
 
   does-same : (c : Call) (r r′ : Answer) (w′ v′ : World) → All Fails (refusals M w c) → Does M w c r w′ → Does M v c r′ v′ → (r ≡ r′) × Same M w′ v′
-  does-same (enter x) r r′ w′ v′ t (er, ew) (er′, ev) =
-      (er ∙ ap (λ gs. number (length gs)) (h .goals) ∙ sym er′, subst₂ (Same M) (sym ew) (sym ev) (record {
-        goals = ap (λ gs. gs ++ goal-of x ∷ []) (h .goals); settled = h .settled; states = h .states; rows = h .rows; marks = h .marks; plans = h .plans; plays = h .plays }))
+  does-same (enter x) r r′ w′ v′ t (er, ew) (er′, ev) = (
+    er ∙ ap (λ gs. number (length gs)) (h .goals) ∙ sym er′,
+    subst₂ (Same M) (sym ew) (sym ev) (record {
+      goals = ap (λ gs. gs ++ goal-of x ∷ []) (h .goals);
+      settled = h .settled;
+      states = h .states;
+      rows = h .rows;
+      marks = h .marks;
+      plans = h .plans;
+      plays = h .plays;
+    }),
+  )
   does-same settle r r′ w′ v′ t (er, a, pa) (er′, b, pb) =
       let same = same-states M (w .model) (t .0) in
       (er ∙ sym er′, settle-same w′ v′ (leb-false _ _ (t .1 .0)) (settles M (w .model) (w′ .model) same a) (settles M (v .model) (v′ .model) (sym (h .states) ∙ same) b) pa pb)
   does-same (query f s) r r′ w′ v′ t (er, ew) (er′, ev) =
       (er ∙ ap (λ (X : States). told (X s)) (h .marks f (leb-false _ _ (t .1 .1 .0))) ∙ sym er′, subst₂ (Same M) (sym ew) (sym ev) h)
-  does-same (plan f) r r′ w′ v′ t (p, ep, i, er, ew) (q, eq, j, er′, ev) =
-      (er ∙ sym er′, subst₂ (Same M) (sym ew) (sym ev) (record {
-        goals = h .goals; settled = h .settled; states = h .states; rows = h .rows; marks = h .marks; plays = h .plays;
-        plans = let hf : f < w .model .settled = leb-false _ _ (t .1 .1 .0) in plan-same-at p q f hf ep eq i j }))
+  does-same (plan f) r r′ w′ v′ t (p, ep, i, er, ew) (q, eq, j, er′, ev) = (
+    er ∙ sym er′,
+    subst₂ (Same M) (sym ew) (sym ev) (record {
+      goals = h .goals;
+      settled = h .settled;
+      states = h .states;
+      rows = h .rows;
+      marks = h .marks;
+      plays = h .plays;
+      plans = let hf : f < w .model .settled = leb-false _ _ (t .1 .1 .0) in plan-same-at p q f hf ep eq i j;
+    }),
+  )
   does-same (move s) r r′ w′ v′ t (p, ep, er, ew) (p′, ep′, er′, ev) =
       let sp = both-some M (w .model .plan) (v .model .plan) p p′ ep ep′ (h .plans) in
       let hs = leb-false _ _ (t .1 .1 .0) in
@@ -292,10 +311,18 @@ module _ (M : Meaning) (law : Lawful M) (w v : World) (h : Same M w v) (k : Kept
   does-same (tell i b) r r′ w′ v′ t d e =
       tell-same i b (awaiting-reply (nth (w .plays) i)) r r′ w′ v′ d (subst (λ qs. Tells M v i b (awaiting-reply (nth qs i)) r′ v′) (sym (h .plays)) e)
   does-same (end i) r r′ w′ v′ t d e = end-same i (nth (w .plays) i) r r′ w′ v′ d (subst (λ qs. Ends v i (nth qs i) r′ v′) (sym (h .plays)) e)
-  does-same (strike n) r r′ w′ v′ t (er, ew) (er′, ev) =
-      (er ∙ sym er′, subst₂ (Same M) (sym ew) (sym ev) (record {
-        goals = ap (take n) (h .goals); settled = ap (min n) (h .settled); states = h .states; rows = h .rows; marks = λ q hq. h .marks q (omega arith);
-        plans = below-same M n (w .model .plan) (v .model .plan) (h .plans); plays = h .plays }))
+  does-same (strike n) r r′ w′ v′ t (er, ew) (er′, ev) = (
+    er ∙ sym er′,
+    subst₂ (Same M) (sym ew) (sym ev) (record {
+      goals = ap (take n) (h .goals);
+      settled = ap (min n) (h .settled);
+      states = h .states;
+      rows = h .rows;
+      marks = λ q hq. h .marks q (omega arith);
+      plans = below-same M n (w .model .plan) (v .model .plan) (h .plans);
+      plays = h .plays;
+    }),
+  )
 
   step-same : (c : Call) (r r′ : Answer) (w′ v′ : World) → Step M w c r w′ → Step M v c r′ v′ → (r ≡ r′) × Same M w′ v′
   step-same c r r′ w′ v′ st st′ = go (first (refusals M w c)) refl (st .is) (subst (λ o. Ruled M v c o r′ v′) (ap first (sym (refusals-same M w v h k c))) (st′ .is))
@@ -313,5 +340,5 @@ runs-same M law w v cs rs rs′ w′ v′ (goes x y z c r cs₁ rs₁ st run) (g
 pub same-answers : Same-answers
 same-answers M law b b′ sound sound′ es er cs rs rs′ w w′ run run′ =
     runs-same M law (opened b) (opened b′) cs rs rs′ w w′ run run′
-      (record { goals = refl; settled = refl; states = es; rows = er; marks = λ q hq. absurd (omega arith); plans = tt; plays = refl })
-      (opened-kept M b sound) (opened-kept M b′ sound′)
+    (record { goals = refl; settled = refl; states = es; rows = er; marks = λ q hq. absurd (omega arith); plans = tt; plays = refl })
+    (opened-kept M b sound) (opened-kept M b′ sound′)

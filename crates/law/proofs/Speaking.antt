@@ -106,10 +106,12 @@ module _ (M : Meaning) (law : Lawful M) (w : World) (w′ : World) (k : Kept M w
       let ex : x ≡ w .model .rows .marked f s = cc in
       let hf = leb-false _ _ (t .1 .1 .0) in
       let hs = leb-false _ _ (t .1 .1 .1 .0) in
-      let sat = pr .decides f hf s hs in
-      ((λ y. sat .0 (sym ex ∙ y), λ y. ex ∙ sat .1 y), λ g φ aims.
-        let en = pr .ensures f hf g φ aims s hs .0 in
-        (λ xf can. clash (ex ∙ en .1 can) xf, λ none. elim (true-or-false x) [ inl y ↦ absurd (none (en .0 (sym ex ∙ y))) | inr y ↦ y ]))
+      let sat = pr .decides f hf s hs in (
+        (λ y. sat .0 (sym ex ∙ y), λ y. ex ∙ sat .1 y),
+        λ g φ aims.
+            let en = pr .ensures f hf g φ aims s hs .0 in
+            (λ xf can. clash (ex ∙ en .1 can) xf, λ none. elim (true-or-false x) [ inl y ↦ absurd (none (en .0 (sym ex ∙ y))) | inr y ↦ y ]),
+      )
 
   -- what the sheet has at a granted state
   granted-entry : (p : Plan) → w .model .plan ≡ Some p → (s : ℕ) → s < M .states → not (granted-on (w .model .plan) s) ≡ false → EverySheet M (w .model) (λ S. (p .rank s ≡ S .rank s) × (p .move s ≡ S .move s))
@@ -135,10 +137,13 @@ module _ (M : Meaning) (law : Lawful M) (w : World) (w′ : World) (k : Kept M w
       go None e (er, ew) t = let z : _≡_ {A = ℕ} 0 1 = cc in absurd (omega arith)
       go (Some q) e (p, ep, er, ew) t =
           let en : n ≡ p .rank (q .state) = cc in
-          let ea : a ≡ p .move (q .state) = cc in
-          (q, move-there (nth (w .plays) i) q e, λ p′ e′ g φ aims S sheet.
-            let x = granted-entry p ep (q .state) (leb-false _ _ (t .1 .1 .0)) (t .1 .1 .1 .1 .0) p′ e′ g φ aims S sheet in
-            (en ∙ x .0, ea ∙ x .1))
+          let ea : a ≡ p .move (q .state) = cc in (
+            q,
+            move-there (nth (w .plays) i) q e,
+            λ p′ e′ g φ aims S sheet.
+                let x = granted-entry p ep (q .state) (leb-false _ _ (t .1 .1 .0)) (t .1 .1 .1 .1 .0) p′ e′ g φ aims S sheet in
+                (en ∙ x .0, ea ∙ x .1),
+          )
 
   of-reply : (s a n b : ℕ) → Step M w (reply s a) (entry n b) w′ → EverySheet M (w .model) (λ S. (n ≡ S .rank s) × (b ≡ S .reply s a))
   of-reply s a n b step p′ e′ g φ aims S sheet =

@@ -13,7 +13,7 @@ pub trait States {
         ensures { λ r. ⌜ r ≡ within (now (self .entry)) state ⌝ };
 }
 
-// The states that are denied with a rank of at most `bound`.
+// The states that are denied with a rank of at most `bound`. Past the last entry nothing is granted, and the rank is 0.
 #[derive(Drop)]
 pub struct Losing<'a> {
     pub entries: &'a [Entry],
@@ -24,8 +24,9 @@ pub impl<'a> States for Losing<'a> as LosingStates {
     ghost within = { λ x s. losing (now (x .entries)) (x .bound) s };
 
     fn has(&self, state: usize) -> bool {
-        state < self.entries.len()
-            && !self.entries[state].granted
-            && self.entries[state].rank <= self.bound
+        if state >= self.entries.len() {
+            return true;
+        }
+        !self.entries[state].granted && self.entries[state].rank <= self.bound
     }
 }

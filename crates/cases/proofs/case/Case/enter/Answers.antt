@@ -22,8 +22,8 @@ returns g c =
     let me = c .args .self .now in
     record {
       steps = λ qs e.
-        let shown : List Goal → World = λ gs. world (record { goals = gs; settled = me .settled; plan = plan-of (me .sheet); rows = g .B·Board .shows (me .board) }) qs in
-        step-does _ _ _ _ _ (h .2 qs) (ap Number (c .len-number .ensures ∙ me .goals .ok .0), ap shown (c .push-reserved .ensures .items ∙ ap (λ φ. vec-items (me .goals) ++ φ ∷ []) (h .0)));
+          let shown : List Goal → World = λ gs. world (record { goals = gs; settled = me .settled; plan = plan-of (me .sheet); rows = g .B·Board .shows (me .board) }) qs in
+          step-does _ _ _ _ _ (h .2 qs) (ap Number (c .len-number .ensures ∙ me .goals .ok .0), ap shown (c .push-reserved .ensures .items ∙ ap (λ φ. vec-items (me .goals) ++ φ ∷ []) (h .0)));
       same = refl;
       out = refl;
     }

@@ -26,10 +26,15 @@ returns g c =
     let shown : Rows → Model = λ b. record { goals = vec-items (me .goals); settled = me .settled + 1; plan = plan-of (me .sheet); rows = b } in
     let flags = vec-items (c .in-Continue-flags .flags) in
     record {
-      steps = λ qs e. step-does _ _ _ _ _ (h .2 qs e) (refl, (
-        set-in flags,
-        subst (λ φ. GoalSet (g .S·System .means (me .system)) (g .B·Board .shows (me .board) .marked) φ (set-in flags)) (h .0) (c .in-Continue-flags .ensures tt),
-        ap shown (c .write-row .ensures ∙ ap (λ v. with-row (g .B·Board .shows (me .board)) (me .settled) (set-in v)) (c .as-slice .ensures .value))), refl);
+      steps = λ qs e. step-does _ _ _ _ _ (h .2 qs e) (
+        refl,
+        (
+          set-in flags,
+          subst (λ φ. GoalSet (g .S·System .means (me .system)) (g .B·Board .shows (me .board) .marked) φ (set-in flags)) (h .0) (c .in-Continue-flags .ensures tt),
+          ap shown (c .write-row .ensures ∙ ap (λ v. with-row (g .B·Board .shows (me .board)) (me .settled) (set-in v)) (c .as-slice .ensures .value)),
+        ),
+        refl,
+      );
       same = refl;
       out = refl;
     }
