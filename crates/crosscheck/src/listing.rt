@@ -1,6 +1,5 @@
 // Listed games at random, and what they answer.
 use crate::plain::Plain;
-use crate::plain::at;
 use crate::plain::bit;
 use crate::plain::digit;
 use crate::plain::place;
@@ -82,12 +81,23 @@ impl Listing {
 }
 
 fn cover(random: &mut Random) -> u8 {
-    if random.once_in(3) { 15 } else { random.byte(16) }
+    if random.once_in(2) {
+        15
+    } else {
+        random.byte(16)
+    }
 }
 
+// Every second line leads to the state after its own.
 fn move_line(random: &mut Random, states: usize) -> MoveLine {
+    let state = random.below(states);
+    let next = if random.once_in(2) {
+        state.wrapping_add(1).checked_rem(states).unwrap_or(0)
+    } else {
+        random.below(states)
+    };
     MoveLine {
-        state: (random.below(states) & 65535) as u16,
+        state: (state & 65535) as u16,
         covers: [
             cover(random),
             cover(random),
@@ -96,7 +106,7 @@ fn move_line(random: &mut Random, states: usize) -> MoveLine {
             cover(random) | 1,
             cover(random) | 1,
         ],
-        next: (random.below(states) & 65535) as u16,
+        next: (next & 65535) as u16,
     }
 }
 
@@ -104,14 +114,18 @@ fn move_line(random: &mut Random, states: usize) -> MoveLine {
 pub fn mask(random: &mut Random) -> u8 {
     let one = 1u8 << random.byte(4).min(3);
     let other = 1u8 << random.byte(4).min(3);
-    if random.once_in(4) {
-        random.byte(15).saturating_add(1)
-    } else {
-        one | other
+    match random.below(5) {
+        0 => random.byte(15).saturating_add(1),
+        1 | 2 => one,
+        _ => one | other,
     }
 }
 
-fn random_moves(heap: Global, random: &mut Random, states: usize) -> Result<Vec<MoveLine>, AllocError> {
+fn random_moves(
+    heap: Global,
+    random: &mut Random,
+    states: usize,
+) -> Result<Vec<MoveLine>, AllocError> {
     let mut moves = Vec::new(heap);
     let count = random.below(place(states, 6, 1));
     for _ in 0..count {
@@ -120,12 +134,18 @@ fn random_moves(heap: Global, random: &mut Random, states: usize) -> Result<Vec<
     Ok(moves)
 }
 
-fn random_marks(heap: Global, random: &mut Random, states: usize, atoms: usize) -> Result<Vec<u32>, AllocError> {
+fn random_marks(
+    heap: Global,
+    random: &mut Random,
+    states: usize,
+    atoms: usize,
+) -> Result<Vec<u32>, AllocError> {
     let mut marks = Vec::new(heap);
+    let rare = random.below(6).wrapping_add(2);
     for _ in 0..states {
         let mut mark = 0;
         for p in 0..atoms.min(28) {
-            if random.once_in(2) {
+            if random.once_in(rare) {
                 mark |= 1u32 << p;
             }
         }
@@ -150,12 +170,12 @@ fn random_starts(heap: Global, random: &mut Random, states: usize) -> Result<Vec
 // A listed game that the check accepts.
 pub fn random_listing(heap: Global, random: &mut Random) -> Result<Listing, AllocError> {
     let agents = random.below(3).wrapping_add(1);
-    let most = if random.once_in(8) { 27 } else { 9 };
+    let most = if random.once_in(4) { 27 } else { 9 };
     let states = random.below(most).wrapping_add(1);
-    let atoms = random.below(4);
+    let atoms = random.below(5);
     let mut masks = Vec::new(heap);
     let mut looks = Vec::new(heap);
-    let kinds = random.below(5).wrapping_add(1);
+    let kinds = random.below(states).wrapping_add(1);
     for _ in 0..states.wrapping_mul(agents) {
         masks.push(mask(random))?;
         looks.push(random.byte(kinds) as u16)?;

@@ -10,7 +10,8 @@ impl Random {
         Random { seed }
     }
 
-    fn step(&mut self) -> u64 {
+    // Any 64 bits but 0.
+    pub fn word(&mut self) -> u64 {
         let mut x = self.seed;
         x ^= x << 13;
         x ^= x >> 7;
@@ -21,7 +22,7 @@ impl Random {
 
     // A number below n, or 0 where n is 0.
     pub fn below(&mut self, n: usize) -> usize {
-        let x = (self.step() >> 16) as usize;
+        let x = (self.word() >> 16) as usize;
         x.checked_rem(n).unwrap_or(0)
     }
 
