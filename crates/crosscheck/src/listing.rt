@@ -89,7 +89,7 @@ fn cover(random: &mut Random) -> u8 {
 }
 
 // Every second line leads to the state after its own.
-fn move_line(random: &mut Random, states: usize) -> MoveLine {
+pub fn any_move(random: &mut Random, states: usize) -> MoveLine {
     let state = random.below(states);
     let next = if random.once_in(2) {
         state.wrapping_add(1).checked_rem(states).unwrap_or(0)
@@ -129,7 +129,7 @@ fn random_moves(
     let mut moves = Vec::new(heap);
     let count = random.below(place(states, 6, 1));
     for _ in 0..count {
-        moves.push(move_line(random, states))?;
+        moves.push(any_move(random, states))?;
     }
     Ok(moves)
 }

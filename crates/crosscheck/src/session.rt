@@ -78,7 +78,7 @@ impl Session {
             let choices = if second.grants(state) {
                 1
             } else {
-                power(second.plain.agents)
+                power(second.plain.agents).min(64)
             };
             for choice in 0..choices {
                 self.ask(heap, second, Ask::Reply(state, choice))?;

@@ -114,3 +114,23 @@ impl Tally {
         sum
     }
 }
+
+// How often each of the numbers below 16 came.
+#[derive(Drop)]
+pub struct Numbers {
+    counts: [usize; 16],
+}
+
+impl Numbers {
+    pub fn new() -> Numbers {
+        Numbers { counts: [0; 16] }
+    }
+
+    pub fn count(&mut self, number: usize) {
+        more(&mut self.counts, number);
+    }
+
+    pub fn of(&self, number: usize) -> usize {
+        at(&self.counts, number, 0)
+    }
+}
