@@ -14,11 +14,12 @@ use Rattle.game.specs.Goals.{goal-of}
 use Rattle.game.specs.declared.fault.Fault.{Fault}
 use Rattle.game.specs.declared.goal.Goal.{Goal}
 use Rattle.game.specs.declared.goal.Word.{Word}
-use Rattle.boards.specs.Meaning.{Rows}
+use Rattle.boards.specs.Meaning.{Rows, Sound}
 use Rattle.plans.specs.Drawing.{granted-in, rank-in, choice-in}
-use Rattle.law.specs.Worlds.{Plan, Model, Play, World, goal-at}
+use Rattle.law.specs.Worlds.{Plan, Model, Play, World, opened, goal-at}
 use Rattle.law.specs.Refusals.{refusals, first}
-use Rattle.law.specs.Steps.{Step, fault}
+use Rattle.law.specs.Steps.{Step, Run, fault}
+use Rattle.law.specs.Laws.{Speaks}
 use Rattle.law.specs.declared.call.Call.{Call}
 use Rattle.law.specs.declared.call.Call.the-variants.{Enter, Settle}
 use Rattle.law.specs.declared.call.Answer.{Answer}
@@ -88,3 +89,8 @@ Permits M out m call (Err e) = (qs : List Play) → length qs ≡ out → (first
 abbrev pub Awaits : Meaning → ℕ → Model → Result Goal Fault → Type 0
 Awaits M out m (Ok φ) = (φ ≡ goal-at m (m .settled)) × (m .settled < length (m .goals)) × Permits M out m Settle (Ok tt)
 Awaits M out m (Err e) = Permits M out m Settle (Err e)
+
+-- What an answer says, where any list of calls has led from an opened case to this one.
+abbrev pub Truth : Meaning → ℕ → Model → Call → Answer → Type 0
+Truth M out m call r =
+    (b : Rows) → Sound b → (cs : List Call) (rs : List Answer) (qs : List Play) → Run M (opened b) cs rs (world m qs) → length qs ≡ out → Speaks M (world m qs) call r

@@ -10,7 +10,7 @@ ghost use Rattle.law.specs.Worlds.{opened};
 ghost use Rattle.law.specs.Refusals.{no-board};
 ghost use Rattle.law.specs.Steps.{fault};
 ghost use Rattle.law.specs.declared.call.Call.the-variants.{Enter, Settle, Query};
-ghost use Rattle.cases.specs.Shows.{model, Calls, numbered, answered, Admits};
+ghost use Rattle.cases.specs.Shows.{model, Calls, numbered, answered, Admits, Truth};
 use crate::case::Case;
 use boards::Board;
 use game::fault::Fault;
@@ -85,7 +85,7 @@ impl<S: System, B: Board> Case<S, B> {
     }
 
     // Whether a settled goal is granted at a state.
-    pub fn query(&self, goal: usize, state: usize) -> Result<bool, Fault>
+    fn ask(&self, goal: usize, state: usize) -> Result<bool, Fault>
         ensures { λ r. ⌜ Calls (S·System .means (now (self .entry) .system)) (now (self .entry) .out) (model (B·Board .shows) (now (self .entry))) (Query goal state) (answered r) (model (B·Board .shows) (now (self .entry))) ⌝ }
     {
         if self.is_unfit() {
@@ -101,6 +101,15 @@ impl<S: System, B: Board> Case<S, B> {
             return Err(refusal(33));
         }
         Ok(self.board.has(goal, state))
+    }
+
+    // Whether a settled goal is granted at a state. On a case that calls have led to, yes says that the goal's whole formula holds there,
+    // and no, of X, G and U, that the group has no strategy that ensures it.
+    pub fn query(&self, goal: usize, state: usize) -> Result<bool, Fault>
+        ensures steps { λ r. ⌜ Calls (S·System .means (now (self .entry) .system)) (now (self .entry) .out) (model (B·Board .shows) (now (self .entry))) (Query goal state) (answered r) (model (B·Board .shows) (now (self .entry))) ⌝ }
+        ensures truth { λ r. ⌜ Truth (S·System .means (now (self .entry) .system)) (now (self .entry) .out) (model (B·Board .shows) (now (self .entry))) (Query goal state) (answered r) ⌝ }
+    {
+        self.ask(goal, state)
     }
 
     // The goal of a word, if it can be entered.

@@ -24,14 +24,14 @@ add-granted g c =
 
 pub loop-state-again : need.loop-state-again
 loop-state-again g c =
-    asked-more _ _ _ _ _ _ _ (c .loop-state .inv) (c .in-Continue-here .here) (c .in-Continue-here .ensures tt) _ (byte-is (c .in-Continue-here .here)) _
+    asked-more _ _ _ _ _ _ _ (c .loop-state .inv) (c .in-Continue-here .here) (c .in-Continue-here .ensures tt .steps) _ (byte-is (c .in-Continue-here .here)) _
     (c .still-all .ensures ∙ ap (λ b. c .loop-state .all && (not b || c .in-Continue-here .here)) (c .start .ensures ∙ ap (λ y. g .S·System .means y .start (c .loop-state .state)) (c .system-in-loop-state .ensures)))
 
 pub returns-in-Break-here : need.returns-in-Break-here
 returns-in-Break-here g c =
     let p = err-from-errBy (c .from-residual .result) (c .from-residual .ensures .1) in
     let size = c .states-states .ensures ∙ ap (λ y. g .S·System .means y .states) (c .system .ensures) in
-    rw (p .1, p .2) (refused-all _ _ _ _ (c .loop-state .state) _ (omega (arith, size, c .loop-state-test .taken)) (c .in-Break-here .ensures tt))
+    rw (p .1, p .2) (refused-all _ _ _ _ (c .loop-state .state) _ (omega (arith, size, c .loop-state-test .taken)) (c .in-Break-here .ensures tt .steps))
 
 pub returns : need.returns
 returns g c =
