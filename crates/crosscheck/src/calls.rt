@@ -1,6 +1,9 @@
 // Sessions on listed games and on agents' systems, over both boards.
+use crate::ask::AskDebug;
+use crate::ask::SaidDebug;
 use crate::crew::Crew;
 use crate::file::bytes_of;
+use crate::file::system_of;
 use crate::file::words_of;
 use crate::hiring::random_crew;
 use crate::listing::Listing;
@@ -15,25 +18,36 @@ use crate::session::any_session;
 use crate::session::replay;
 use crate::session::whole_session;
 use crate::tally::Tally;
-use crate::file::system_of;
+use boards::BitRows;
 use boards::Board;
+use boards::ChangeRows;
 use std::alloc::Global;
 use std::io;
-use systems::listed_system::open;
-use boards::BitRows;
-use boards::ChangeRows;
-use crate::ask::AskDebug;
-use crate::ask::SaidDebug;
 use systems::agents_system::AgentsSystemSystem;
 use systems::listed_system::GameSystem;
+use systems::listed_system::open;
 
 // Prints the system and the calls up to the one to which something else was said.
-fn show(rt: &LibcRuntime, board: &str, second: &Second, session: &Session, place: usize) -> io::Result<()> {
+fn show(
+    rt: &LibcRuntime,
+    board: &str,
+    second: &Second,
+    session: &Session,
+    place: usize,
+) -> io::Result<()> {
     let plain = &second.plain;
     println!(rt, "differs on the board of {board} at call {place}")?;
-    println!(rt, "agents {} states {} atoms {} rows {} of {}", plain.agents, plain.states, plain.atoms, second.rows, second.width)?;
+    println!(
+        rt,
+        "agents {} states {} atoms {} rows {} of {}",
+        plain.agents, plain.states, plain.atoms, second.rows, second.width
+    )?;
     println!(rt, "masks {:?} looks {:?}", plain.masks, plain.looks)?;
-    println!(rt, "marks {:?} starts {:?} nexts {:?}", plain.marks, plain.starts, plain.nexts)?;
+    println!(
+        rt,
+        "marks {:?} starts {:?} nexts {:?}",
+        plain.marks, plain.starts, plain.nexts
+    )?;
     for (i, ask) in session.asks.iter().enumerate().take(place.wrapping_add(1)) {
         let said = session.says.get(i).copied();
         println!(rt, "{ask:?} should be {said:?}")?;
@@ -42,7 +56,14 @@ fn show(rt: &LibcRuntime, board: &str, second: &Second, session: &Session, place
 }
 
 // Notes a difference, and prints the first.
-fn note(rt: &LibcRuntime, tally: &mut Tally, board: &str, second: &Second, session: &Session, found: Option<usize>) -> io::Result<()> {
+fn note(
+    rt: &LibcRuntime,
+    tally: &mut Tally,
+    board: &str,
+    second: &Second,
+    session: &Session,
+    found: Option<usize>,
+) -> io::Result<()> {
     if let Some(place) = found {
         if tally.differ == 0 {
             show(rt, board, second, session, place)?;
@@ -52,7 +73,14 @@ fn note(rt: &LibcRuntime, tally: &mut Tally, board: &str, second: &Second, sessi
     Ok(())
 }
 
-fn try_listing(rt: &LibcRuntime, random: &mut Random, tally: &mut Tally, listing: &Listing, second: &Second, session: &Session) -> io::Result<()> {
+fn try_listing(
+    rt: &LibcRuntime,
+    random: &mut Random,
+    tally: &mut Tally,
+    listing: &Listing,
+    second: &Second,
+    session: &Session,
+) -> io::Result<()> {
     let heap = rt.alloc();
     let bits = bit_board(heap, random, second.width, second.rows)?;
     let found = replay(heap, open(&listing.lists()), bits, session);
@@ -65,14 +93,26 @@ fn try_listing(rt: &LibcRuntime, random: &mut Random, tally: &mut Tally, listing
 }
 
 // The calls of a session on the system of a procedure file.
-fn replay_file<B: Board + Drop>(heap: Global, bytes: &[u8], board: B, session: &Session) -> Option<usize> {
+fn replay_file<B: Board + Drop>(
+    heap: Global,
+    bytes: &[u8],
+    board: B,
+    session: &Session,
+) -> Option<usize> {
     let Some(system) = system_of(heap, bytes) else {
         return Some(0);
     };
     replay(heap, system, board, session)
 }
 
-fn try_crew(rt: &LibcRuntime, random: &mut Random, tally: &mut Tally, crew: &Crew, second: &Second, session: &Session) -> io::Result<()> {
+fn try_crew(
+    rt: &LibcRuntime,
+    random: &mut Random,
+    tally: &mut Tally,
+    crew: &Crew,
+    second: &Second,
+    session: &Session,
+) -> io::Result<()> {
     let heap = rt.alloc();
     let words = words_of(heap, crew, &[])?;
     let bytes = bytes_of(heap, &words)?;
@@ -137,10 +177,29 @@ fn any_calls(rt: &LibcRuntime, random: &mut Random, tally: &mut Tally) -> io::Re
 }
 
 fn report(rt: &LibcRuntime, name: &str, tally: &Tally) -> io::Result<()> {
-    println!(rt, "{name}: {} systems, {} goals, {} calls on each of two boards, {} differ", tally.systems, tally.goal_count(), tally.calls, tally.differ)?;
-    println!(rt, "  goals by operator: {:?}; granted {}, denied {}", tally.goals, tally.yes, tally.no)?;
-    println!(rt, "  rounds of G and U: {}; C that takes more than one step: {}", tally.rounds, tally.common)?;
-    println!(rt, "  moves: {}, {} of rank 2 and more; replies: {}, {} of rank 2 and more", tally.moves, tally.deep_moves, tally.replies, tally.deep_replies)?;
+    println!(
+        rt,
+        "{name}: {} systems, {} goals, {} calls on each of two boards, {} differ",
+        tally.systems,
+        tally.goal_count(),
+        tally.calls,
+        tally.differ
+    )?;
+    println!(
+        rt,
+        "  goals by operator: {:?}; granted {}, denied {}",
+        tally.goals, tally.yes, tally.no
+    )?;
+    println!(
+        rt,
+        "  rounds of G and U: {}; C that takes more than one step: {}",
+        tally.rounds, tally.common
+    )?;
+    println!(
+        rt,
+        "  moves: {}, {} of rank 2 and more; replies: {}, {} of rank 2 and more",
+        tally.moves, tally.deep_moves, tally.replies, tally.deep_replies
+    )?;
     print!(rt, "  refusals:")?;
     for (number, count) in tally.refusals.iter().enumerate() {
         if *count > 0 {

@@ -23,7 +23,13 @@ fn word(kind: u8, a: usize, b: usize, c: usize, d: usize) -> Word {
 fn put_line(words: &mut Vec<Word>, kind: u8, line: &Guarded) -> Result<(), AllocError> {
     words.push(word(kind, line.tests.len(), 0, 0, line.result as usize))?;
     for test in line.tests.iter() {
-        words.push(word(5, test.sort as usize, test.agent as usize, 0, test.value as usize))?;
+        words.push(word(
+            5,
+            test.sort as usize,
+            test.agent as usize,
+            0,
+            test.value as usize,
+        ))?;
     }
     Ok(())
 }

@@ -7,10 +7,13 @@ use crate::questions::first_otherwise;
 use crate::random::Random;
 use crate::second_reader::Found;
 use crate::second_reader::Wrong;
+use crate::second_reader::WrongPartialEq;
 use crate::second_reader::read_file;
 use crate::tally::Numbers;
 use game::fault::Layer;
+use game::fault::LayerPartialEq;
 use game::goal::Word;
+use game::goal::WordPartialEq;
 use game::system::System;
 use procedure::error::ReadError;
 use procedure::procedure::Procedure;
@@ -18,9 +21,6 @@ use procedure::reading::read_whole;
 use std::alloc::AllocError;
 use std::alloc::Global;
 use std::io;
-use crate::second_reader::WrongPartialEq;
-use game::fault::LayerPartialEq;
-use game::goal::WordPartialEq;
 use systems::agents_system::AgentsSystemSystem;
 
 // A word of a kind, with any fields near to right.
@@ -108,7 +108,13 @@ fn random_file(heap: Global, random: &mut Random) -> Result<Vec<u8>, AllocError>
     };
     let mut goals = Vec::new(heap);
     for _ in 0..random.below(5) {
-        goals.push(Word { kind: 8, a: random.byte(16), b: random.byte(256), c: random.byte(256), d: random.byte(256) })?;
+        goals.push(Word {
+            kind: 8,
+            a: random.byte(16),
+            b: random.byte(256),
+            c: random.byte(256),
+            d: random.byte(256),
+        })?;
     }
     let words = words_of(heap, &crew, &goals)?;
     let words = damaged(heap, random, words)?;
@@ -151,11 +157,19 @@ fn same_words(one: &[Word], other: &[Word]) -> bool {
     true
 }
 
-fn same_found(heap: Global, random: &mut Random, read: &Procedure, found: &Found) -> Result<bool, AllocError> {
+fn same_found(
+    heap: Global,
+    random: &mut Random,
+    read: &Procedure,
+    found: &Found,
+) -> Result<bool, AllocError> {
     if !same_words(&read.goals, &found.goals) {
         return Ok(false);
     }
-    let cells = found.crew.states().wrapping_mul(power(found.crew.members.len()));
+    let cells = found
+        .crew
+        .states()
+        .wrapping_mul(power(found.crew.members.len()));
     if cells > 4096 {
         return Ok(read.system.states() == found.crew.states());
     }
@@ -163,7 +177,12 @@ fn same_found(heap: Global, random: &mut Random, read: &Procedure, found: &Found
     Ok(first_otherwise(&read.system, &plain, random).is_none())
 }
 
-fn agrees(heap: Global, random: &mut Random, bytes: &[u8], second: &Result<Found, Wrong>) -> Result<bool, AllocError> {
+fn agrees(
+    heap: Global,
+    random: &mut Random,
+    bytes: &[u8],
+    second: &Result<Found, Wrong>,
+) -> Result<bool, AllocError> {
     match read_whole(heap, bytes) {
         Ok(read) => match second {
             Ok(found) => same_found(heap, random, &read, found),
@@ -171,7 +190,10 @@ fn agrees(heap: Global, random: &mut Random, bytes: &[u8], second: &Result<Found
         },
         Err(ReadError::Refused(fault)) => match second {
             Ok(_) => Ok(false),
-            Err(wrong) => Ok(*wrong == Wrong::At(fault.number, fault.place) && fault.layer == layer(fault.number)),
+            Err(wrong) => Ok(
+                *wrong == Wrong::At(fault.number, fault.place)
+                    && fault.layer == layer(fault.number),
+            ),
         },
         Err(ReadError::Memory) => Ok(false),
     }
@@ -201,5 +223,15 @@ pub fn compare_files(rt: &LibcRuntime, random: &mut Random) -> io::Result<()> {
         }
         counts.count(number_of(&second));
     }
-    println!(rt, "procedure files: 10000, {differ} differ; read {}, 1: {}, 2: {}, 3: {}, 4: {}, 6: {}, 8: {}", counts.of(0), counts.of(1), counts.of(2), counts.of(3), counts.of(4), counts.of(6), counts.of(8))
+    println!(
+        rt,
+        "procedure files: 10000, {differ} differ; read {}, 1: {}, 2: {}, 3: {}, 4: {}, 6: {}, 8: {}",
+        counts.of(0),
+        counts.of(1),
+        counts.of(2),
+        counts.of(3),
+        counts.of(4),
+        counts.of(6),
+        counts.of(8)
+    )
 }

@@ -29,32 +29,59 @@ fn rule_test(random: &mut Random, agents: usize, first: usize, own: usize) -> Te
     }
 }
 
-fn random_rule(heap: Global, random: &mut Random, agents: usize, first: usize, own: usize) -> Result<Guarded, AllocError> {
+// A rule; every second one leads from a local state to the one after it.
+fn random_rule(
+    heap: Global,
+    random: &mut Random,
+    agents: usize,
+    first: usize,
+    own: usize,
+) -> Result<Guarded, AllocError> {
     let mut tests = Vec::new(heap);
-    for _ in 0..random.below(4) {
+    let from = random.below(own);
+    let mut result = random.below(own);
+    if random.once_in(2) {
+        result = from.wrapping_add(1).checked_rem(own).unwrap_or(0);
+        tests.push(Test {
+            sort: 0,
+            agent: 0,
+            value: (from & 255) as u8,
+        })?;
+    }
+    for _ in 0..random.below(3) {
         tests.push(rule_test(random, agents, first, own))?;
     }
     Ok(Guarded {
-        result: random.byte(own),
+        result: (result & 255) as u8,
         tests,
     })
 }
 
-fn random_member(heap: Global, random: &mut Random, agents: usize, first: usize, locals: usize) -> Result<Member, AllocError> {
+fn random_member(
+    heap: Global,
+    random: &mut Random,
+    agents: usize,
+    first: usize,
+    locals: usize,
+) -> Result<Member, AllocError> {
     let mut masks = Vec::new(heap);
     for _ in 0..locals {
         masks.push(mask(random))?;
     }
     let mut rules = Vec::new(heap);
-    for _ in 0..random.below(7) {
+    for _ in 0..random.below(9) {
         rules.push(random_rule(heap, random, agents, first, locals)?)?;
     }
-    Ok(Member { locals, masks, rules })
+    Ok(Member {
+        locals,
+        masks,
+        rules,
+    })
 }
 
 fn random_label(heap: Global, random: &mut Random, crew: &Crew) -> Result<Guarded, AllocError> {
     let mut tests = Vec::new(heap);
-    for _ in 0..random.below(3) {
+    for _ in 0..random.below(4) {
         let agent = random.byte(crew.members.len());
         let value = random.byte(crew.locals(agent as usize));
         tests.push(Test {
@@ -72,10 +99,20 @@ fn random_label(heap: Global, random: &mut Random, crew: &Crew) -> Result<Guarde
 // How many local states an agent has, so that there are at most so many states.
 fn random_locals(random: &mut Random, most: usize, states: usize, limit: usize) -> usize {
     let locals = random.below(most).wrapping_add(1);
-    if locals.wrapping_mul(states) > limit { 1 } else { locals }
+    if locals.wrapping_mul(states) > limit {
+        1
+    } else {
+        locals
+    }
 }
 
-fn random_members(heap: Global, random: &mut Random, agents: usize, most: usize, limit: usize) -> Result<Vec<Member>, AllocError> {
+fn random_members(
+    heap: Global,
+    random: &mut Random,
+    agents: usize,
+    most: usize,
+    limit: usize,
+) -> Result<Vec<Member>, AllocError> {
     let mut members = Vec::new(heap);
     let mut states = 1usize;
     let mut first = 1usize;
@@ -91,7 +128,13 @@ fn random_members(heap: Global, random: &mut Random, agents: usize, most: usize,
 }
 
 // An agents' system of up to so many agents, each of up to so many local states, with at most so many states.
-pub fn random_crew(heap: Global, random: &mut Random, agents: usize, most: usize, limit: usize) -> Result<Crew, AllocError> {
+pub fn random_crew(
+    heap: Global,
+    random: &mut Random,
+    agents: usize,
+    most: usize,
+    limit: usize,
+) -> Result<Crew, AllocError> {
     let count = random.below(agents).wrapping_add(1);
     let mut crew = Crew {
         atoms: random.below(5),

@@ -3,26 +3,26 @@ use crate::crew::Crew;
 use crate::damage::broken;
 use crate::damage::damage;
 use crate::file::bytes_of;
+use crate::file::system_of;
 use crate::file::words_of;
 use crate::hiring::random_crew;
 use crate::listing::Listing;
 use crate::listing::random_listing;
 use crate::plain::Plain;
 use crate::questions::Asked;
+use crate::questions::AskedDebug;
 use crate::questions::first_otherwise;
 use crate::random::Random;
+use crate::tally::Numbers;
 use game::fault::Fault;
 use game::fault::Layer;
-use crate::file::system_of;
-use crate::tally::Numbers;
 use std::alloc::AllocError;
 use std::alloc::Global;
 use std::io;
-use systems::check::check;
-use systems::listed_system::open;
-use crate::questions::AskedDebug;
 use systems::agents_system::AgentsSystemSystem;
+use systems::check::check;
 use systems::listed_system::GameSystem;
+use systems::listed_system::open;
 
 #[derive(Drop)]
 struct Counts {
@@ -56,7 +56,11 @@ impl Counts {
     }
 
     fn report(&self, rt: &LibcRuntime, name: &str) -> io::Result<()> {
-        println!(rt, "{name}: {} systems, {} states, {} joint choices, {} differ", self.systems, self.states, self.choices, self.differ)
+        println!(
+            rt,
+            "{name}: {} systems, {} states, {} joint choices, {} differ",
+            self.systems, self.states, self.choices, self.differ
+        )
     }
 }
 
@@ -64,7 +68,12 @@ fn of_listing(random: &mut Random, listing: &Listing, plain: &Plain) -> Option<A
     first_otherwise(&open(&listing.lists()), plain, random)
 }
 
-fn of_crew(heap: Global, random: &mut Random, crew: &Crew, plain: &Plain) -> Result<Option<Asked>, AllocError> {
+fn of_crew(
+    heap: Global,
+    random: &mut Random,
+    crew: &Crew,
+    plain: &Plain,
+) -> Result<Option<Asked>, AllocError> {
     let words = words_of(heap, crew, &[])?;
     let bytes = bytes_of(heap, &words)?;
     match system_of(heap, &bytes) {
@@ -92,7 +101,8 @@ fn agrees(answer: Result<(), Fault>, wanted: Option<(u8, usize)>) -> bool {
     match answer {
         Ok(_) => wanted.is_none(),
         Err(fault) => match (fault.layer, wanted) {
-            (Layer::System, Some((number, place))) => fault.number == number && fault.place == place,
+            (Layer::System, Some((number, place))) => fault.number == number
+                && fault.place == place,
             _ => false,
         },
     }
@@ -107,7 +117,11 @@ fn number_of(wanted: Option<(u8, usize)>) -> usize {
 }
 
 // The game of the lists, or the empty game.
-fn plain_of(heap: Global, listing: &Listing, wanted: Option<(u8, usize)>) -> Result<Plain, AllocError> {
+fn plain_of(
+    heap: Global,
+    listing: &Listing,
+    wanted: Option<(u8, usize)>,
+) -> Result<Plain, AllocError> {
     if wanted.is_some() {
         return empty_plain(heap);
     }
@@ -134,7 +148,14 @@ fn compare_checks(rt: &LibcRuntime, random: &mut Random) -> io::Result<()> {
         let found = of_listing(random, &listing, &plain);
         opened.add(rt, &plain, found)?;
     }
-    println!(rt, "check of lists: {differ} differ; accepted {}, 11: {}, 12: {}, 14: {}", counts.of(0), counts.of(11), counts.of(12), counts.of(14))?;
+    println!(
+        rt,
+        "check of lists: {differ} differ; accepted {}, 11: {}, 12: {}, 14: {}",
+        counts.of(0),
+        counts.of(11),
+        counts.of(12),
+        counts.of(14)
+    )?;
     opened.report(rt, "damaged lists opened")
 }
 

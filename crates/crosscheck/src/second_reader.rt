@@ -77,9 +77,20 @@ impl Cursor<'_> {
     }
 
     // The conditions of a rule of the last agent.
-    fn rule_tests(&mut self, heap: Global, crew: &Crew, n: usize, own: usize, count: u8) -> Result<Vec<Test>, Wrong> {
+    fn rule_tests(
+        &mut self,
+        heap: Global,
+        crew: &Crew,
+        n: usize,
+        own: usize,
+        count: u8,
+    ) -> Result<Vec<Test>, Wrong> {
         let mut tests = Vec::new(heap);
-        let first = if crew.members.is_empty() { own } else { crew.locals(0) };
+        let first = if crew.members.is_empty() {
+            own
+        } else {
+            crew.locals(0)
+        };
         for _ in 0..count {
             let word = self.take(5)?;
             self.zero(word.c)?;
@@ -87,12 +98,14 @@ impl Cursor<'_> {
                 self.zero(word.b)?;
             }
             let value = word.d as usize;
-            self.range(match word.a {
-                0 => value < own,
-                1 => value < first,
-                2 => (word.b as usize) < n && value < 4,
-                _ => false,
-            })?;
+            self.range(
+                match word.a {
+                    0 => value < own,
+                    1 => value < first,
+                    2 => (word.b as usize) < n && value < 4,
+                    _ => false,
+                },
+            )?;
             tests.push(Test {
                 sort: word.a,
                 agent: word.b,
@@ -158,7 +171,11 @@ impl Cursor<'_> {
                 rules.push(self.rule(heap, crew, n, locals)?)?;
             }
         }
-        Ok(Member { locals, masks, rules })
+        Ok(Member {
+            locals,
+            masks,
+            rules,
+        })
     }
 
     fn label(&mut self, heap: Global, crew: &Crew) -> Result<Guarded, Wrong> {
@@ -177,7 +194,9 @@ impl Cursor<'_> {
         let word = self.take(6)?;
         self.zero(word.a)?;
         self.zero(word.b)?;
-        let state = (word.c as usize).wrapping_mul(256).wrapping_add(word.d as usize);
+        let state = (word.c as usize)
+            .wrapping_mul(256)
+            .wrapping_add(word.d as usize);
         self.range(state < crew.states())?;
         Ok(state)
     }
@@ -188,7 +207,11 @@ impl Cursor<'_> {
         let word = self.take(9)?;
         self.zero(word.a)?;
         self.zero(word.b)?;
-        if (word.c as usize).wrapping_mul(256).wrapping_add(word.d as usize) != before {
+        if (word.c as usize)
+            .wrapping_mul(256)
+            .wrapping_add(word.d as usize)
+            != before
+        {
             return self.wrong(8);
         }
         if self.place < self.words.len() {
