@@ -29,6 +29,7 @@ fn rule_test(random: &mut Random, agents: usize, first: usize, own: usize) -> Te
     }
 }
 
+// A rule; every second one leads from a local state to the one after it.
 fn random_rule(
     heap: Global,
     random: &mut Random,
@@ -37,11 +38,21 @@ fn random_rule(
     own: usize,
 ) -> Result<Guarded, AllocError> {
     let mut tests = Vec::new(heap);
-    for _ in 0..random.below(4) {
+    let from = random.below(own);
+    let mut result = random.below(own);
+    if random.once_in(2) {
+        result = from.wrapping_add(1).checked_rem(own).unwrap_or(0);
+        tests.push(Test {
+            sort: 0,
+            agent: 0,
+            value: (from & 255) as u8,
+        })?;
+    }
+    for _ in 0..random.below(3) {
         tests.push(rule_test(random, agents, first, own))?;
     }
     Ok(Guarded {
-        result: random.byte(own),
+        result: (result & 255) as u8,
         tests,
     })
 }
@@ -58,7 +69,7 @@ fn random_member(
         masks.push(mask(random))?;
     }
     let mut rules = Vec::new(heap);
-    for _ in 0..random.below(7) {
+    for _ in 0..random.below(9) {
         rules.push(random_rule(heap, random, agents, first, locals)?)?;
     }
     Ok(Member {
@@ -70,7 +81,7 @@ fn random_member(
 
 fn random_label(heap: Global, random: &mut Random, crew: &Crew) -> Result<Guarded, AllocError> {
     let mut tests = Vec::new(heap);
-    for _ in 0..random.below(3) {
+    for _ in 0..random.below(4) {
         let agent = random.byte(crew.members.len());
         let value = random.byte(crew.locals(agent as usize));
         tests.push(Test {

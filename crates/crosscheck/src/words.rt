@@ -9,15 +9,26 @@ fn group(random: &mut Random, agents: usize, least: usize) -> u8 {
     (random.below(some).wrapping_add(least) & 255) as u8
 }
 
-// A goal word over so many earlier goals that can be entered: at first TRUE and atoms.
+// An earlier goal, every second time this one.
+fn operand(random: &mut Random, count: usize, often: usize) -> u8 {
+    let any = random.byte(count);
+    if often < count && random.once_in(2) {
+        (often & 255) as u8
+    } else {
+        any
+    }
+}
+
+// A goal word over so many earlier goals that can be entered: at first TRUE, atoms and NOT.
 pub fn random_goal(random: &mut Random, plain: &Plain, count: usize) -> Word {
     let a = match count {
         0 => random.byte(2),
         1 | 2 => 1,
+        3 => 2,
         _ => random.byte(16),
     };
-    let c = random.byte(count);
-    let d = random.byte(count);
+    let c = operand(random, count, 3);
+    let d = operand(random, count, 1);
     let (a, b, c, d) = match a {
         1 if plain.atoms == 0 && count == 0 => (0, 0, 0, 0),
         1 if plain.atoms == 0 => (2, 0, c, 0),
