@@ -21,3 +21,8 @@ own-part M g t a p = record { fits = p .fits; acting = p .acting; idle = p .idle
 
 pub choice-test : (M : Meaning) (g t a : ℕ) (x : Bool) → Decides x (Part M (side-of g true) t a) → x ≡ fits-side M (member g) t a
 choice-test M g t a x d = let s = sides-are-parts M (member g) t a in decided x _ _ _ (part-own M g t a) (own-part M g t a) d (s .0) (s .1)
+
+pub reply-test : (M : Meaning) (g t b : ℕ) (x : Bool) → Decides x (Part M (side-of g false) t b) → x ≡ fits-side M (λ i. not (member g i)) t b
+reply-test M g t b x d =
+    let s = sides-are-parts M (λ i. not (member g i)) t b in
+    decided x _ _ _ (λ p. record { fits = p .fits; acting = p .acting; idle = p .idle }) (λ p. record { fits = p .fits; acting = p .acting; idle = p .idle }) d (s .0) (s .1)

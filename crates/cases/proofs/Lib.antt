@@ -3,3 +3,4 @@ pub mod Writing
 pub mod Sheets
 pub mod Replying
 pub mod Choosing
+pub mod Telling

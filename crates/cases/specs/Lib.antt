@@ -1,2 +1,3 @@
 pub mod Shows
 pub mod Planning
+pub mod Plays

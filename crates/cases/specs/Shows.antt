@@ -37,6 +37,13 @@ plan-of (Some y) = Some (record { goal = y .goal; granted = granted-in (vec-item
 abbrev pub model : {S B : Type 0} → (B → Rows) → Case S B → Model
 model shows x = record { goals = vec-items (x .goals); settled = x .settled; plan = plan-of (x .sheet); rows = shows (x .board) }
 
+-- The system of a case, and how many of its plays are under way.
+abbrev pub system-of : {S B : Type 0} → Case S B → S
+system-of x = x .system
+
+abbrev pub out-of : {S B : Type 0} → Case S B → ℕ
+out-of x = x .out
+
 abbrev pub world : Model → List Play → World
 world m qs = record { model = m; plays = qs }
 
@@ -52,6 +59,10 @@ numbered (Err e) = Refused e
 abbrev pub answered : Result Bool Fault → Answer
 answered (Ok x) = Told x
 answered (Err e) = Refused e
+
+abbrev pub finished : Result (Unit {0}) Fault → Answer
+finished (Ok x) = Done
+finished (Err e) = Refused e
 
 abbrev pub advised : Result Advice Fault → Answer
 advised (Ok x) = Entry (x .rank) (x .choice)

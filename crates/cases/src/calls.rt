@@ -47,6 +47,7 @@ pub(crate) fn goal_at(goals: &Vec<Goal>, f: usize) -> Goal
 }
 
 // A system and a board on which no case could be opened for want of memory.
+#[derive(Drop)]
 pub struct Unopened<S, B> {
     pub system: S,
     pub board: B,
@@ -70,8 +71,14 @@ impl<S: System, B: Board> Case<S, B> {
         }
     }
 
+    pub fn system(&self) -> &S
+        ensures { λ r. ⌜ now r ≡ now (self .entry) .system ⌝ }
+    {
+        &self.system
+    }
+
     // The board has no row, or another number of states than the system.
-    pub(crate) fn is_unfit(&self) -> bool
+    pub fn is_unfit(&self) -> bool
         ensures { λ r. ⌜ r ≡ no-board (S·System .means (now (self .entry) .system)) (model (B·Board .shows) (now (self .entry))) ⌝ }
     {
         self.board.rows() == 0 || self.board.states() != self.system.states()

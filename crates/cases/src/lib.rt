@@ -2,7 +2,10 @@
 pub mod advice;
 pub mod calls;
 pub mod case;
+pub mod outcome;
 pub mod plan;
+pub mod play;
+pub mod plays;
 pub mod reply;
 mod rows;
 pub mod settle;

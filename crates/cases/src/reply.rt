@@ -47,6 +47,13 @@ fn is_choice<S: System>(system: &S, group: u8, state: usize, choice: usize) -> b
     side(system, group, true, state, choice)
 }
 
+// Whether a number is a reply of the others.
+pub(crate) fn is_reply<S: System>(system: &S, group: u8, state: usize, reply: usize) -> bool
+    ensures { λ r. ⌜ r ≡ fits-side (S·System .means (now (system .entry))) (λ i. not (member group i)) state reply ⌝ }
+{
+    side(system, group, false, state, reply)
+}
+
 // The lowest reply of the table to a group's choice at a denied state.
 fn lowest<S: System, B: Board>(
     system: &S,

@@ -5,3 +5,5 @@ pub mod Taking
 pub mod Going
 pub mod Slice
 pub mod Scan
+pub mod Run
+pub mod Verdict

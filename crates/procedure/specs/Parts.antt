@@ -3,14 +3,14 @@ use mathlib.Core.Path.{_≡_}
 use mathlib.Core.Bool.{Bool, true, false, cond, _&&_, _||_}
 use mathlib.Core.List.{List, [], _∷_, _++_, map}
 use Prim.Native.Nat.{ℕ, _+_, _*_, _<_}
-use lib.Dec.{eqb, ltb}
+use lib.Dec.{eqb, leb, ltb}
 use lib.ListN.{length, getD}
 use Rattle.game.specs.declared.goal.Word.{Word}
 use Rattle.systems.specs.First.{all-of}
 use Rattle.systems.specs.declared.line.Condition.{Condition}
 use Rattle.systems.specs.declared.line.LocalState.{LocalState}
 use Rattle.procedure.specs.Words.{w}
-use Rattle.procedure.specs.Kinds.{kind-of}
+use Rattle.procedure.specs.Kinds.{kind-of, number-of}
 use Rattle.procedure.specs.Texts.{RuleText, LabelText, AgentText, Description, condition-word, local-word, rule-word, rules-words, label-word, labels-words, protocol-words, agent-word, agents-words, starts-words, system-word, ended}
 use Rattle.procedure.specs.declared.kind.Kind.{Kind}
 use Rattle.procedure.specs.declared.kind.Kind.the-variants as kind
@@ -106,7 +106,7 @@ abbrev pub product : List ℕ → ℕ
 product [] = 1
 product (x ∷ xs) = x * product xs
 
--- With the agent under way, where there is one.
+-- The number of local states of each agent so far, with the agent under way where there is one.
 abbrev pub sizes-at : Stage → Part → List ℕ
 sizes-at stage.Begin p = []
 sizes-at stage.Agents p = []
@@ -131,30 +131,13 @@ known p = record {
   words = length (said p);
 }
 
--- The kinds that may come next. After an agent's protocol words: its rule lines, then the next agent, or a start after the last.
-abbrev pub among : ℕ → ℕ → Kind → Bool
-among low high kind.System = ltb low 2 && ltb 0 high
-among low high kind.Agent = ltb low 3 && ltb 1 high
-among low high kind.Protocol = ltb low 4 && ltb 2 high
-among low high kind.Rule = ltb low 5 && ltb 3 high
-among low high kind.Condition = ltb low 6 && ltb 4 high
-among low high kind.Start = ltb low 7 && ltb 5 high
-among low high kind.Label = ltb low 8 && ltb 6 high
-among low high kind.Goal = ltb low 9 && ltb 7 high
-among low high kind.End = ltb low 10 && ltb 8 high
-among low high kind.Other = false
+-- The kind's number is among these.
+abbrev pub among : (low high : ℕ) → Kind → Bool
+among low high k = leb low (number-of k) && leb (number-of k) high
 
+-- The kinds that may come next. After an agent's protocol words: its rule lines, then the next agent, or a start after the last.
 abbrev pub after-rules : (agents n : ℕ) → Kind → Bool
-after-rules agents n kind.System = false
-after-rules agents n kind.Agent = ltb agents n
-after-rules agents n kind.Protocol = false
-after-rules agents n kind.Rule = true
-after-rules agents n kind.Condition = false
-after-rules agents n kind.Start = eqb agents n
-after-rules agents n kind.Label = false
-after-rules agents n kind.Goal = false
-after-rules agents n kind.End = false
-after-rules agents n kind.Other = false
+after-rules agents n k = cond (eqb (number-of k) 2) (ltb agents n) (cond (eqb (number-of k) 6) (eqb agents n) (eqb (number-of k) 4))
 
 abbrev pub expected : Stage → (agents n : ℕ) → Kind → Bool
 expected stage.Begin agents n k = among 1 1 k

@@ -1,0 +1,38 @@
+// Numbers that look random and are the same in every run.
+
+#[derive(Drop)]
+pub struct Random {
+    seed: u64,
+}
+
+impl Random {
+    pub fn new(seed: u64) -> Random {
+        Random { seed }
+    }
+
+    // Any 64 bits but 0.
+    pub fn word(&mut self) -> u64 {
+        let mut x = self.seed;
+        x ^= x << 13;
+        x ^= x >> 7;
+        x ^= x << 17;
+        self.seed = x;
+        x
+    }
+
+    // A number below n, or 0 where n is 0.
+    pub fn below(&mut self, n: usize) -> usize {
+        let x = (self.word() >> 16) as usize;
+        x.checked_rem(n).unwrap_or(0)
+    }
+
+    // Yes once in n times.
+    pub fn once_in(&mut self, n: usize) -> bool {
+        self.below(n) == 0
+    }
+
+    // A number below n as a byte; n is at most 256.
+    pub fn byte(&mut self, n: usize) -> u8 {
+        (self.below(n) & 255) as u8
+    }
+}

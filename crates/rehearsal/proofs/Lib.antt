@@ -1,0 +1,4 @@
+pub mod Turning
+pub mod Seating
+pub mod Fitting
+pub mod Running
