@@ -1,7 +1,7 @@
 -- Counting where a goal is granted, one query after another. Assumes nothing.
 use mathlib.Core.Bool.{Bool, true, false, not, cond, _&&_, _||_}
-use mathlib.Core.List.{List, [], _∷_}
-use mathlib.Core.Logic.{_⊎_, inl, inr, _↔_}
+use mathlib.Core.List.{[], _∷_}
+use mathlib.Core.Logic.{_↔_}
 use mathlib.Core.Path.{_≡_, refl, sym, ap, subst, _∙_}
 use Prim.Native.Nat.{ℕ, zero, suc, _+_, _<_, _≤_}
 use native.Mathlib.Numerals.{add-one}
@@ -13,10 +13,10 @@ use Rattle.std.proofs.shelf.Tests.{lt-leb, and-parts, and-from, cond-both}
 use Rattle.std.specs.declared.option.Option.{Option}
 use Rattle.std.specs.declared.option.Option.the-variants.{Some, None}
 use Rattle.game.specs.Meaning.{Meaning}
-use Rattle.game.specs.Objectives.{States, _∈_}
+use Rattle.game.specs.Objectives.{_∈_}
 use Rattle.game.specs.declared.fault.Fault.{Fault}
 use Rattle.game.proofs.Bounded.{clash}
-use Rattle.law.specs.Worlds.{Model, Play, World}
+use Rattle.law.specs.Worlds.{Model, World}
 use Rattle.law.specs.Refusals.{refusals, first, no-board}
 use Rattle.law.specs.Steps.{Ruled, Step, begun}
 use Rattle.law.specs.Logs.{accepted}

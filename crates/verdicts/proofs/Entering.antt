@@ -1,11 +1,11 @@
 -- Entering the goals of words, one after another. Assumes nothing.
-use mathlib.Core.Bool.{Bool, true, false}
-use mathlib.Core.List.{List, [], _∷_, _++_, map, map-append}
+use mathlib.Core.Bool.{true}
+use mathlib.Core.List.{List, [], _∷_, map, map-append}
 use mathlib.Core.Path.{_≡_, refl, sym, ap, subst, subst₂, _∙_}
-use Prim.Native.Nat.{ℕ, zero, suc, _+_, _<_, _≤_}
+use Prim.Native.Nat.{ℕ, _+_, _<_, _≤_}
 use native.Mathlib.Numerals.{add-one}
 use native.Mathlib.Omega.{arith}
-use lib.ListN.{length, getD, take}
+use lib.ListN.{length, take}
 use lib.Seq.{take-suc, take-all}
 use borrow.Author.Count.{below-more}
 use Rattle.std.specs.declared.option.Option.{Option}
@@ -19,7 +19,7 @@ use Rattle.game.proofs.Bounded.{clash}
 use Rattle.boards.specs.Meaning.{Rows}
 use Rattle.law.specs.Worlds.{Model, World}
 use Rattle.law.specs.Refusals.{refusals, first}
-use Rattle.law.specs.Steps.{Does, Ruled, Step, entered, fault}
+use Rattle.law.specs.Steps.{Does, Ruled, Step, entered}
 use Rattle.law.specs.Logs.{accepted}
 use Rattle.law.specs.declared.call.Call.{Call}
 use Rattle.law.specs.declared.call.Call.the-variants.{Enter}

@@ -2,16 +2,16 @@
 use mathlib.Core.Bool.{false, cond}
 use mathlib.Core.List.{List, [], _∷_, _++_}
 use mathlib.Core.Path.{_≡_, refl, sym, ap, subst, _∙_}
-use Prim.Native.Nat.{ℕ, _+_, _<_, _≤_}
+use Prim.Native.Nat.{ℕ, _+_, _<_}
 use native.Mathlib.Nat.{sub-self}
 use native.Mathlib.Omega.{arith}
 use lib.Dec.{leb}
-use lib.ListN.{length, getD, replicate, length-replicate}
+use lib.ListN.{length, replicate, length-replicate}
 use borrow.Author.Count.{below-more}
 use Rattle.std.proofs.shelf.Tests.{lt-leb}
 use Rattle.std.proofs.shelf.Lists.{getD-append-left, getD-append-right, length-push}
 use Rattle.std.specs.declared.option.Option.the-variants.{Some, None}
-use Rattle.std.specs.declared.result.Result.the-variants.{Ok, Err}
+use Rattle.std.specs.declared.result.Result.the-variants.{Err}
 use Rattle.game.specs.Meaning.{Meaning, Lawful}
 use Rattle.game.specs.Objectives.{States}
 use Rattle.game.specs.declared.fault.Fault.{Fault}

@@ -1,20 +1,20 @@
 -- Settling goals, one after another. Assumes nothing.
-use mathlib.Core.Bool.{Bool, true, false, not, cond, _||_}
+use mathlib.Core.Bool.{false, not, cond, _||_}
 use mathlib.Core.List.{List, [], _∷_, _++_}
 use mathlib.Core.Path.{_≡_, refl, sym, ap, subst, _∙_}
-use Prim.Native.Nat.{ℕ, _+_, _<_, _≤_}
+use Prim.Native.Nat.{ℕ, _+_, _<_}
 use native.Mathlib.Omega.{arith}
 use lib.Dec.{leb, eqb}
 use lib.ListN.{length}
 use Rattle.std.proofs.shelf.Tests.{lt-leb}
 use Rattle.std.specs.declared.option.Option.{Option}
 use Rattle.std.specs.declared.option.Option.the-variants.{Some, None}
-use Rattle.std.specs.declared.result.Result.the-variants.{Ok, Err}
+use Rattle.std.specs.declared.result.Result.the-variants.{Err}
 use Rattle.game.specs.Meaning.{Meaning}
 use Rattle.game.specs.declared.fault.Fault.{Fault}
 use Rattle.law.specs.Worlds.{Model, World}
 use Rattle.law.specs.Refusals.{refusals, first, no-board}
-use Rattle.law.specs.Steps.{Step, Run, rest, goes, settled-as}
+use Rattle.law.specs.Steps.{Step, Run, rest, goes}
 use Rattle.law.specs.declared.call.Call.{Call}
 use Rattle.law.specs.declared.call.Call.the-variants.{Settle}
 use Rattle.law.specs.declared.call.Answer.{Answer}

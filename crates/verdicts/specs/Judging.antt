@@ -1,5 +1,5 @@
 -- The verdict on all goals of a list of words. Assumes nothing.
-use mathlib.Core.Bool.{true, false}
+use mathlib.Core.Bool.{false}
 use mathlib.Core.List.{List, [], map}
 use mathlib.Core.Logic.{_↔_}
 use mathlib.Core.Path.{_≡_}
@@ -19,7 +19,7 @@ use Rattle.game.specs.declared.fault.Fault.{Fault}
 use Rattle.game.specs.declared.fault.Layer.the-variants.{Case}
 use Rattle.game.specs.declared.goal.Word.{Word}
 use Rattle.boards.specs.Meaning.{Rows}
-use Rattle.law.specs.Worlds.{Model, World}
+use Rattle.law.specs.Worlds.{Model}
 use Rattle.law.specs.Refusals.{refusals, first}
 use Rattle.law.specs.Steps.{Run}
 use Rattle.law.specs.declared.call.Call.{Call}

@@ -1,4 +1,4 @@
-use mathlib.Core.Path.{_≡_, sym, ap, subst, subst₂, _∙_}
+use mathlib.Core.Path.{_≡_, ap, subst₂, _∙_}
 use Prim.Native.Nat.{ℕ, _≤_}
 use Rattle.std.proofs.shelf.Tests.{le-leb, and-from, cond-true}
 use Rattle.game.specs.Meaning.{Meaning}

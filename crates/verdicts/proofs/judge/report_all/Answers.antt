@@ -1,4 +1,4 @@
-use mathlib.Core.Path.{_≡_, ap, subst, _∙_}
+use mathlib.Core.Path.{_≡_, _∙_}
 use native.Mathlib.Omega.{arith}
 use Rattle.verdicts.proofs.Reporting.{has-line, lined-none, lined-more}
 use Rattle.verdicts.proofs.judge.report_all.Needs as need

@@ -1,8 +1,7 @@
 use mathlib.Core.Bool.{Bool, true, false, not, cond, _&&_, _||_}
-use mathlib.Core.Path.{_≡_, refl, sym, ap, subst, _∙_}
+use mathlib.Core.Path.{_≡_, refl, ap, _∙_}
 use Prim.Native.Nat.{_≤_}
 use native.Mathlib.Omega.{arith}
-use borrow.Author.Needs.{needs}
 use mir.Val.{boolByte}
 use Rattle.std.proofs.shelf.Results.{err-from-errBy}
 use Rattle.cases.specs.Shows.{model}
