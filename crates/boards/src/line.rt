@@ -28,7 +28,7 @@ fn put_in(row: &mut [u16], i: usize, point: u16)
 }
 
 // Whether the state is a member.
-pub fn holds(row: &[u16], n: u16, state: u16) -> bool
+pub(crate) fn holds(row: &[u16], n: u16, state: u16) -> bool
     requires rise { ⌜ Rise n (now row) ⌝ }
     requires known { ⌜ state < n ⌝ }
     ensures { λ r. ⌜ r ≡ member (now (row .entry)) state ⌝ }
@@ -70,7 +70,7 @@ fn flip(row: &mut [u16], n: u16, state: u16)
 }
 
 // Makes one state a member, or none.
-pub fn assign(row: &mut [u16], n: u16, state: u16, to: bool)
+pub(crate) fn assign(row: &mut [u16], n: u16, state: u16, to: bool)
     requires rise { ⌜ Rise n (now row) ⌝ }
     requires known { ⌜ state < n ⌝ }
     ensures rise { λ _. ⌜ Rise n (now (row .exit)) ⌝ }
@@ -82,7 +82,7 @@ pub fn assign(row: &mut [u16], n: u16, state: u16, to: bool)
 }
 
 // Leaves no change point.
-pub fn clear(row: &mut [u16], n: u16)
+pub(crate) fn clear(row: &mut [u16], n: u16)
     ensures { λ _. ⌜ now (row .exit) ≡ replicate (length (now (row .entry))) n ⌝ }
 {
     row.fill(n);

@@ -8,7 +8,7 @@ ghost use Rattle.boards.specs.Points.{member, Rise, row-at};
 use crate::line;
 
 // Whether the state is a member in a row.
-pub fn holds_at(points: &[u16], n: usize, row: usize, state: usize) -> bool
+pub(crate) fn holds_at(points: &[u16], n: usize, row: usize, state: usize) -> bool
     requires few { ⌜ n ≤ 1024 ⌝ }
     requires within { ⌜ row * (n + 1) + (n + 1) ≤ length (now points) ⌝ }
     requires rise { ⌜ Rise n (row-at (now points) n row) ⌝ }
@@ -21,7 +21,7 @@ pub fn holds_at(points: &[u16], n: usize, row: usize, state: usize) -> bool
 }
 
 // Makes one state of a row a member, or none.
-pub fn assign_at(points: &mut [u16], n: usize, row: usize, state: usize, to: bool)
+pub(crate) fn assign_at(points: &mut [u16], n: usize, row: usize, state: usize, to: bool)
     requires few { ⌜ n ≤ 1024 ⌝ }
     requires within { ⌜ row * (n + 1) + (n + 1) ≤ length (now points) ⌝ }
     requires rise { ⌜ Rise n (row-at (now points) n row) ⌝ }
@@ -36,7 +36,7 @@ pub fn assign_at(points: &mut [u16], n: usize, row: usize, state: usize, to: boo
 }
 
 // Leaves no member in a row.
-pub fn clear_at(points: &mut [u16], n: usize, row: usize)
+pub(crate) fn clear_at(points: &mut [u16], n: usize, row: usize)
     requires few { ⌜ n ≤ 1024 ⌝ }
     requires within { ⌜ row * (n + 1) + (n + 1) ≤ length (now points) ⌝ }
     ensures cleared { λ _. ⌜ row-at (now (points .exit)) n row ≡ replicate (n + 1) n ⌝ }

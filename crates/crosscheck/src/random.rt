@@ -2,21 +2,21 @@
 
 #[derive(Drop)]
 pub struct Random {
-    seed: u64,
+    state: u64,
 }
 
 impl Random {
-    pub fn new(seed: u64) -> Random {
-        Random { seed }
+    pub fn new(state: u64) -> Random {
+        Random { state }
     }
 
     // Any 64 bits but 0.
     pub fn word(&mut self) -> u64 {
-        let mut x = self.seed;
+        let mut x = self.state;
         x ^= x << 13;
         x ^= x >> 7;
         x ^= x << 17;
-        self.seed = x;
+        self.state = x;
         x
     }
 
