@@ -43,6 +43,10 @@ framed n h f = record { states = n; rows = h; marked = λ r s. (ltb r h && ltb s
 abbrev pub whole-rows : ℕ → ℕ → ℕ → ℕ
 whole-rows n width size = cond (leb 1 n && leb n 1024) (min (size / width) 64) 0
 
+-- 64 rows without marks, or none where there are not 1 to 1,024 states.
+abbrev pub fresh : ℕ → Rows
+fresh n = blank n (cond (leb 1 n && leb n 1024) 64 0)
+
 -- What every board keeps.
 pub record Sound (b : Rows) : Type 0 where
   pub few : b .rows ≤ 64

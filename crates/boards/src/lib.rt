@@ -3,6 +3,7 @@ mod bits;
 mod board;
 mod changes;
 mod edits;
+mod fresh;
 mod line;
 mod rows;
 
@@ -16,6 +17,8 @@ pub use edits::Change;
 pub use edits::apply;
 pub use edits::both_after;
 pub use edits::same_after;
+pub use fresh::fresh_bits;
+pub use fresh::fresh_changes;
 
 // What a board of change points stores of a row is exactly the states where membership changes.
 pub fn points_are_changes() -> u8

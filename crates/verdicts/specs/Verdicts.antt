@@ -10,7 +10,7 @@ use Rattle.std.specs.declared.result.Result.{Result}
 use Rattle.std.specs.declared.result.Result.the-variants.{Ok, Err}
 use Rattle.game.specs.declared.fault.Fault.{Fault}
 use Rattle.game.specs.declared.goal.Word.{Word}
-use Rattle.boards.specs.Meaning.{Rows, blank, whole-rows}
+use Rattle.boards.specs.Meaning.{blank}
 use Rattle.systems.specs.AgentsMeaning.{agents-meaning}
 use Rattle.systems.specs.declared.agents.AgentsSystem.{AgentsSystem}
 use Rattle.procedure.specs.Texts.{described}
@@ -21,10 +21,6 @@ use Rattle.cases.specs.declared.stop.Stop.{Stop}
 use Rattle.cases.specs.declared.stop.Stop.the-variants.{Refusal, Memory}
 use Rattle.verdicts.specs.declared.line.Line.{Line}
 use Rattle.verdicts.specs.Judging.{RefusedWord, Judged}
-
--- A board in 1,024 words of bits.
-abbrev pub boarded : ℕ → Rows
-boarded n = blank n (whole-rows n 16 1024)
 
 -- The refusal of goal word i of a file whose goal words are ws: its place is that of the word, and the goal words stand right before the end word.
 pub record RefusedGoal (bytes : List ℕ) (y : AgentsSystem) (ws : List Word) (e : Fault) : Type 0 where

@@ -1,15 +1,14 @@
 // The verdict on a procedure file.
 ghost use mathlib.Core.Path.{_≡_};
-ghost use Rattle.std.specs.Of.Vec.{vec-items};
-ghost use Rattle.std.specs.Vec.{made};
 ghost use Rattle.boards.specs.Meaning.{blank};
-ghost use Rattle.boards.specs.Bits.{bit-rows};
 ghost use Rattle.verdicts.specs.Judging.{Judges};
-ghost use Rattle.verdicts.specs.Verdicts.{Verdict, boarded, stopped};
+ghost use Rattle.verdicts.specs.Verdicts.{Verdict, stopped};
 use crate::judge::judge;
 use crate::line::Line;
-use boards::BitBoard;
 use boards::BitRows;
+use boards::ChangeRows;
+// The board that verdicts are found on: `fresh_bits` or `fresh_changes`.
+use boards::fresh_bits as board_of;
 use cases::stop::Stop;
 use cases::stop::StopFromAlloc;
 use game::fault::Fault;
@@ -17,19 +16,10 @@ use game::goal::Word;
 use game::system::System;
 use procedure::error::ReadError;
 use procedure::reading::read_whole;
-use std::alloc::AllocError;
 use std::alloc::Global;
 use systems::agents_system::AgentsSystemSystem;
 use systems::table_system::TableSystem;
 use systems::table_system::tabulate;
-
-// A board of 64 rows of bits.
-fn board_of(heap: Global, states: usize) -> Result<BitBoard, AllocError>
-    ensures { λ r. ⌜ made r (λ b. bit-rows (vec-items (b .words)) (b .count) (b .height) ≡ boarded states) ⌝ }
-{
-    let memory = vec![in heap; 0u64; 1024]?;
-    Ok(BitBoard::new(states, memory))
-}
 
 // The verdict on the goals of the words, on a table of the system and a board of 64 rows.
 pub fn judge_system<S: System>(heap: Global, system: &S, words: &[Word]) -> Result<Vec<Line>, Stop>
