@@ -54,7 +54,7 @@ fn advised(answer: Result<Advice, Fault>) -> Said {
 }
 
 // What the case says.
-pub fn hear<S: System, B: Board>(heap: Global, case: &mut Case<S, B>, ask: Ask) -> Said {
+pub(crate) fn hear<S: System, B: Board>(heap: Global, case: &mut Case<S, B>, ask: Ask) -> Said {
     match ask {
         Ask::Enter(word) => match case.enter(word) {
             Ok(number) => Said::Number(number),

@@ -209,7 +209,7 @@ fn report(rt: &LibcRuntime, name: &str, tally: &Tally) -> io::Result<()> {
     println!(rt, "")
 }
 
-pub fn compare_calls(rt: &LibcRuntime, random: &mut Random) -> io::Result<()> {
+pub(crate) fn compare_calls(rt: &LibcRuntime, random: &mut Random) -> io::Result<()> {
     let mut tally = Tally::new();
     listed_sets(rt, random, &mut tally)?;
     report(rt, "listed games", &tally)?;

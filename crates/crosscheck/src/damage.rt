@@ -7,7 +7,7 @@ use std::alloc::Global;
 use systems::line::MoveLine;
 
 // The first rule that the lists break: its number and the entry.
-pub fn broken(listing: &Listing) -> Option<(u8, usize)> {
+pub(crate) fn broken(listing: &Listing) -> Option<(u8, usize)> {
     let n = listing.agents;
     let many = listing.states;
     if n == 0 || n > 6 || many == 0 || many > 1024 || listing.atoms > 28 {
@@ -128,7 +128,11 @@ fn damage_entries(random: &mut Random, listing: &mut Listing) {
 }
 
 // Damages a listing in some ways.
-pub fn damage(heap: Global, random: &mut Random, listing: &mut Listing) -> Result<(), AllocError> {
+pub(crate) fn damage(
+    heap: Global,
+    random: &mut Random,
+    listing: &mut Listing,
+) -> Result<(), AllocError> {
     if random.once_in(5) {
         damage_lengths(random, listing)?;
     }

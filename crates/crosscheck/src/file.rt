@@ -46,7 +46,7 @@ fn put_member(words: &mut Vec<Word>, number: usize, member: &Member) -> Result<(
 }
 
 // The words of a system and of its goals.
-pub fn words_of(heap: Global, crew: &Crew, goals: &[Word]) -> Result<Vec<Word>, AllocError> {
+pub(crate) fn words_of(heap: Global, crew: &Crew, goals: &[Word]) -> Result<Vec<Word>, AllocError> {
     let mut words = Vec::new(heap);
     words.push(word(1, 0, crew.members.len(), crew.atoms, 1))?;
     for (i, member) in crew.members.iter().enumerate() {
@@ -67,7 +67,7 @@ pub fn words_of(heap: Global, crew: &Crew, goals: &[Word]) -> Result<Vec<Word>, 
 }
 
 // The bytes of words, the lowest first.
-pub fn bytes_of(heap: Global, words: &[Word]) -> Result<Vec<u8>, AllocError> {
+pub(crate) fn bytes_of(heap: Global, words: &[Word]) -> Result<Vec<u8>, AllocError> {
     let mut bytes = Vec::new(heap);
     for word in words.iter() {
         bytes.push(word.d)?;
@@ -79,7 +79,7 @@ pub fn bytes_of(heap: Global, words: &[Word]) -> Result<Vec<u8>, AllocError> {
 }
 
 // The system of a procedure file.
-pub fn system_of(heap: Global, bytes: &[u8]) -> Option<AgentsSystem> {
+pub(crate) fn system_of(heap: Global, bytes: &[u8]) -> Option<AgentsSystem> {
     match read_whole(heap, bytes) {
         Ok(Procedure { system, goals: _ }) => Some(system),
         Err(_) => None,

@@ -208,7 +208,7 @@ fn number_of(second: &Result<Found, Wrong>) -> usize {
     }
 }
 
-pub fn compare_files(rt: &LibcRuntime, random: &mut Random) -> io::Result<()> {
+pub(crate) fn compare_files(rt: &LibcRuntime, random: &mut Random) -> io::Result<()> {
     let heap = rt.alloc();
     let mut counts = Numbers::new();
     let mut differ = 0usize;

@@ -128,7 +128,7 @@ fn random_members(
 }
 
 // An agents' system of up to so many agents, each of up to so many local states, with at most so many states.
-pub fn random_crew(
+pub(crate) fn random_crew(
     heap: Global,
     random: &mut Random,
     agents: usize,

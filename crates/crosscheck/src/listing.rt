@@ -23,7 +23,7 @@ pub struct Listing {
 }
 
 impl Listing {
-    pub fn lists(&self) -> Lists<'_> {
+    pub(crate) fn lists(&self) -> Lists<'_> {
         Lists {
             agents: self.agents,
             states: self.states,
@@ -62,7 +62,7 @@ impl Listing {
         Ok(nexts)
     }
 
-    pub fn plain(&self, heap: Global) -> Result<Plain, AllocError> {
+    pub(crate) fn plain(&self, heap: Global) -> Result<Plain, AllocError> {
         let mut starts = Vec::new(heap);
         for start in self.starts.iter() {
             starts.push(*start != 0)?;
@@ -89,7 +89,7 @@ fn cover(random: &mut Random) -> u8 {
 }
 
 // Every second line leads to the state after its own.
-pub fn any_move(random: &mut Random, states: usize) -> MoveLine {
+pub(crate) fn any_move(random: &mut Random, states: usize) -> MoveLine {
     let state = random.below(states);
     let next = if random.once_in(2) {
         state.wrapping_add(1).checked_rem(states).unwrap_or(0)
@@ -111,7 +111,7 @@ pub fn any_move(random: &mut Random, states: usize) -> MoveLine {
 }
 
 // A mask of one or two actions mostly.
-pub fn mask(random: &mut Random) -> u8 {
+pub(crate) fn mask(random: &mut Random) -> u8 {
     let one = 1u8 << random.byte(4).min(3);
     let other = 1u8 << random.byte(4).min(3);
     match random.below(5) {
@@ -168,7 +168,7 @@ fn random_starts(heap: Global, random: &mut Random, states: usize) -> Result<Vec
 }
 
 // A listed game that the check accepts.
-pub fn random_listing(heap: Global, random: &mut Random) -> Result<Listing, AllocError> {
+pub(crate) fn random_listing(heap: Global, random: &mut Random) -> Result<Listing, AllocError> {
     let agents = random.below(3).wrapping_add(1);
     let most = if random.once_in(4) { 27 } else { 9 };
     let states = random.below(most).wrapping_add(1);

@@ -7,7 +7,7 @@ use std::alloc::AllocError;
 use std::alloc::Global;
 
 // So many rows and some words that make no row.
-pub fn bit_board(
+pub(crate) fn bit_board(
     heap: Global,
     random: &mut Random,
     states: usize,
@@ -20,7 +20,7 @@ pub fn bit_board(
     Ok(BitBoard::new(states, memory))
 }
 
-pub fn change_board(
+pub(crate) fn change_board(
     heap: Global,
     random: &mut Random,
     states: usize,

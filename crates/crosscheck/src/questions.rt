@@ -110,7 +110,11 @@ fn of_far<S: System>(system: &S, plain: &Plain, random: &mut Random) -> Option<A
 }
 
 // The first question that the system answers otherwise.
-pub fn first_otherwise<S: System>(system: &S, plain: &Plain, random: &mut Random) -> Option<Asked> {
+pub(crate) fn first_otherwise<S: System>(
+    system: &S,
+    plain: &Plain,
+    random: &mut Random,
+) -> Option<Asked> {
     if let Some(asked) = sizes(system, plain) {
         return Some(asked);
     }

@@ -159,7 +159,7 @@ fn compare_checks(rt: &LibcRuntime, random: &mut Random) -> io::Result<()> {
     opened.report(rt, "damaged lists opened")
 }
 
-pub fn compare_readings(rt: &LibcRuntime, random: &mut Random) -> io::Result<()> {
+pub(crate) fn compare_readings(rt: &LibcRuntime, random: &mut Random) -> io::Result<()> {
     let heap = rt.alloc();
     let mut listed = Counts::new();
     for _ in 0..2000 {

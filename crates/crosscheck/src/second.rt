@@ -33,7 +33,7 @@ pub struct Second {
     pub depth: Depth,
 }
 
-pub fn begin(heap: Global, plain: Plain, rows: usize, width: usize) -> Second {
+pub(crate) fn begin(heap: Global, plain: Plain, rows: usize, width: usize) -> Second {
     Second {
         plain,
         rows,
@@ -204,7 +204,7 @@ impl Second {
     }
 
     // Whether there is a sheet that grants its goal at a state.
-    pub fn grants(&self, state: usize) -> bool {
+    pub(crate) fn grants(&self, state: usize) -> bool {
         match &self.sheet {
             Some(sheet) => sheet.grants(state),
             None => false,
@@ -212,7 +212,7 @@ impl Second {
     }
 
     // What a call should say.
-    pub fn say(&mut self, heap: Global, ask: Ask) -> Result<Said, AllocError> {
+    pub(crate) fn say(&mut self, heap: Global, ask: Ask) -> Result<Said, AllocError> {
         match ask {
             Ask::Enter(word) => self.enter(word),
             Ask::Settle => self.settle(heap),

@@ -273,7 +273,7 @@ fn byte(bytes: &[u8], i: usize) -> u8 {
     bytes.get(i).copied().unwrap_or(0)
 }
 
-pub fn read_file(heap: Global, bytes: &[u8]) -> Result<Found, Wrong> {
+pub(crate) fn read_file(heap: Global, bytes: &[u8]) -> Result<Found, Wrong> {
     let count = bytes.len() / 4;
     if bytes.is_empty() || bytes.len() % 4 != 0 || count > 4096 {
         return Err(Wrong::At(1, count));

@@ -23,7 +23,7 @@ pub struct Session {
 }
 
 impl Session {
-    pub fn new(heap: Global) -> Session {
+    pub(crate) fn new(heap: Global) -> Session {
         Session {
             asks: Vec::new(heap),
             says: Vec::new(heap),
@@ -102,7 +102,7 @@ impl Session {
 }
 
 // Goals, their sets and their sheets.
-pub fn whole_session(
+pub(crate) fn whole_session(
     heap: Global,
     random: &mut Random,
     second: &mut Second,
@@ -142,7 +142,7 @@ fn any_ask(random: &mut Random, second: &Second) -> Ask {
 }
 
 // Calls in any order, with numbers that are known and not known.
-pub fn any_session(
+pub(crate) fn any_session(
     heap: Global,
     random: &mut Random,
     second: &mut Second,
@@ -171,7 +171,7 @@ fn first_difference<S: System, B: Board>(
 }
 
 // Makes the calls on a case of the system and the board; gives the first that differs.
-pub fn replay<S: System + Drop, B: Board + Drop>(
+pub(crate) fn replay<S: System + Drop, B: Board + Drop>(
     heap: Global,
     system: S,
     board: B,

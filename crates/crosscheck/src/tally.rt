@@ -31,7 +31,7 @@ fn more(counts: &mut [usize], i: usize) {
 }
 
 impl Tally {
-    pub fn new() -> Tally {
+    pub(crate) fn new() -> Tally {
         Tally {
             systems: 0,
             calls: 0,
@@ -97,7 +97,7 @@ impl Tally {
         }
     }
 
-    pub fn add(&mut self, second: &Second, session: &Session) {
+    pub(crate) fn add(&mut self, second: &Second, session: &Session) {
         self.systems = self.systems.wrapping_add(1);
         self.rounds = self.rounds.wrapping_add(second.depth.rounds);
         self.common = self.common.wrapping_add(second.depth.common);
@@ -106,7 +106,7 @@ impl Tally {
         }
     }
 
-    pub fn goal_count(&self) -> usize {
+    pub(crate) fn goal_count(&self) -> usize {
         let mut sum = 0usize;
         for count in self.goals.iter() {
             sum = sum.wrapping_add(*count);
@@ -122,15 +122,15 @@ pub struct Numbers {
 }
 
 impl Numbers {
-    pub fn new() -> Numbers {
+    pub(crate) fn new() -> Numbers {
         Numbers { counts: [0; 16] }
     }
 
-    pub fn count(&mut self, number: usize) {
+    pub(crate) fn count(&mut self, number: usize) {
         more(&mut self.counts, number);
     }
 
-    pub fn of(&self, number: usize) -> usize {
+    pub(crate) fn of(&self, number: usize) -> usize {
         at(&self.counts, number, 0)
     }
 }

@@ -20,7 +20,7 @@ fn operand(random: &mut Random, count: usize, often: usize) -> u8 {
 }
 
 // A goal word over so many earlier goals that can be entered: at first TRUE, atoms and NOT.
-pub fn random_goal(random: &mut Random, plain: &Plain, count: usize) -> Word {
+pub(crate) fn random_goal(random: &mut Random, plain: &Plain, count: usize) -> Word {
     let a = match count {
         0 => random.byte(2),
         1 | 2 => 1,
@@ -63,7 +63,7 @@ fn field(random: &mut Random, n: usize) -> u8 {
 }
 
 // Any word, near to a goal word.
-pub fn any_word(random: &mut Random, plain: &Plain, count: usize) -> Word {
+pub(crate) fn any_word(random: &mut Random, plain: &Plain, count: usize) -> Word {
     let kind = if random.once_in(8) {
         random.byte(16)
     } else {
