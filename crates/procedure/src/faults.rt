@@ -10,7 +10,7 @@ use game::fault::Fault;
 use game::fault::Layer;
 
 // 2 and 3 are of a word, 4 of a record, 6 and 8 of a system.
-pub fn fault(place: usize, number: u8) -> ReadError
+pub(crate) fn fault(place: usize, number: u8) -> ReadError
     ensures { λ r. ⌜ r ≡ Refuse (fault-at place number) ⌝ }
 {
     let layer = if number < 4 {
@@ -28,7 +28,7 @@ pub fn fault(place: usize, number: u8) -> ReadError
 }
 
 // Both unused fields are 0.
-pub fn unused(place: usize, one: u8, other: u8) -> Result<(), ReadError>
+pub(crate) fn unused(place: usize, one: u8, other: u8) -> Result<(), ReadError>
     ensures { λ r. ⌜ Cases r (λ _. one + other ≡ 0) (λ e. (0 < one + other) × (e ≡ Refuse (fault-at place 3))) ⌝ }
 {
     if one != 0 || other != 0 {
@@ -38,7 +38,7 @@ pub fn unused(place: usize, one: u8, other: u8) -> Result<(), ReadError>
 }
 
 // The numbers of a word are in their ranges.
-pub fn ranged(place: usize, fits: bool) -> Result<(), ReadError>
+pub(crate) fn ranged(place: usize, fits: bool) -> Result<(), ReadError>
     ensures { λ r. ⌜ Cases r (λ _. fits ≡ true) (λ e. (fits ≡ false) × (e ≡ Refuse (fault-at place 4))) ⌝ }
 {
     if fits { Ok(()) } else { Err(fault(place, 4)) }

@@ -16,7 +16,7 @@ pub enum Kind {
     Other,
 }
 
-pub fn kind_of(number: u8) -> Kind
+pub(crate) fn kind_of(number: u8) -> Kind
     ensures is { λ r. ⌜ r ≡ kind-by number ⌝ }
     ensures names { λ r. ⌜ Names r number ⌝ }
 {

@@ -45,7 +45,7 @@ fn line_fits(word: Word, limit: u8) -> bool
 }
 
 impl Reader {
-    pub fn system(&mut self, place: usize, word: Word) -> Result<(), ReadError>
+    pub(crate) fn system(&mut self, place: usize, word: Word) -> Result<(), ReadError>
         requires at { ⌜ now self .stage ≡ stage.Begin ⌝ }
         requires kind { ⌜ word .kind ≡ 1 ⌝ }
         requires ready { ⌜ Ready stage.Begin (now self) ⌝ }
@@ -62,7 +62,7 @@ impl Reader {
         Ok(())
     }
 
-    pub fn agent(&mut self, place: usize, word: Word) -> Result<(), ReadError>
+    pub(crate) fn agent(&mut self, place: usize, word: Word) -> Result<(), ReadError>
         requires kind { ⌜ word .kind ≡ 2 ⌝ }
         requires between { ⌜ Between (now self) ⌝ }
         requires more { ⌜ vec-len (now self .sizes) < now self .n ⌝ }
@@ -85,7 +85,7 @@ impl Reader {
         Ok(())
     }
 
-    pub fn protocol(&mut self, place: usize, word: Word) -> Result<(), ReadError>
+    pub(crate) fn protocol(&mut self, place: usize, word: Word) -> Result<(), ReadError>
         requires at { ⌜ now self .stage ≡ stage.Protocols ⌝ }
         requires kind { ⌜ word .kind ≡ 3 ⌝ }
         requires ready { ⌜ Ready stage.Protocols (now self) ⌝ }
@@ -104,7 +104,7 @@ impl Reader {
         Ok(())
     }
 
-    pub fn rule(&mut self, heap: Global, place: usize, word: Word) -> Result<(), ReadError>
+    pub(crate) fn rule(&mut self, heap: Global, place: usize, word: Word) -> Result<(), ReadError>
         requires at { ⌜ now self .stage ≡ stage.Rules ⌝ }
         requires kind { ⌜ word .kind ≡ 4 ⌝ }
         requires ready { ⌜ Ready stage.Rules (now self) ⌝ }
@@ -139,7 +139,7 @@ impl Reader {
         Ok(())
     }
 
-    pub fn rule_condition(
+    pub(crate) fn rule_condition(
         &mut self,
         heap: Global,
         place: usize,
@@ -193,7 +193,12 @@ impl Reader {
     }
 
     // The agent word after another agent.
-    pub fn next_agent(&mut self, heap: Global, place: usize, word: Word) -> Result<(), ReadError>
+    pub(crate) fn next_agent(
+        &mut self,
+        heap: Global,
+        place: usize,
+        word: Word,
+    ) -> Result<(), ReadError>
         requires kind { ⌜ word .kind ≡ 2 ⌝ }
         requires ready { ⌜ Ready stage.Rules (now self) ⌝ }
         requires more { ⌜ vec-len (now self .sizes) < now self .n ⌝ }
@@ -205,7 +210,12 @@ impl Reader {
     }
 
     // The start word after the last agent.
-    pub fn first_start(&mut self, heap: Global, place: usize, word: Word) -> Result<(), ReadError>
+    pub(crate) fn first_start(
+        &mut self,
+        heap: Global,
+        place: usize,
+        word: Word,
+    ) -> Result<(), ReadError>
         requires kind { ⌜ word .kind ≡ 6 ⌝ }
         requires ready { ⌜ Ready stage.Rules (now self) ⌝ }
         requires last { ⌜ vec-len (now self .sizes) ≡ now self .n ⌝ }
@@ -216,7 +226,7 @@ impl Reader {
         self.start(place, word)
     }
 
-    pub fn start(&mut self, place: usize, word: Word) -> Result<(), ReadError>
+    pub(crate) fn start(&mut self, place: usize, word: Word) -> Result<(), ReadError>
         requires kind { ⌜ word .kind ≡ 6 ⌝ }
         requires complete { ⌜ Complete (now self) ⌝ }
         requires none { ⌜ (vec-items (now self .labels) ≡ []) × (vec-items (now self .goals) ≡ []) × (vec-items (now self .wants) ≡ []) ⌝ }
@@ -231,7 +241,7 @@ impl Reader {
         Ok(())
     }
 
-    pub fn label(&mut self, heap: Global, place: usize, word: Word) -> Result<(), ReadError>
+    pub(crate) fn label(&mut self, heap: Global, place: usize, word: Word) -> Result<(), ReadError>
         requires kind { ⌜ word .kind ≡ 7 ⌝ }
         requires complete { ⌜ Complete (now self) ⌝ }
         requires begins { ⌜ 0 < vec-len (now self .starts) ⌝ }
@@ -251,7 +261,7 @@ impl Reader {
         Ok(())
     }
 
-    pub fn label_condition(
+    pub(crate) fn label_condition(
         &mut self,
         heap: Global,
         place: usize,
@@ -305,7 +315,7 @@ impl Reader {
     }
 
     // The fields of a goal word are left as they are.
-    pub fn goal(&mut self, place: usize, word: Word) -> Result<(), ReadError>
+    pub(crate) fn goal(&mut self, place: usize, word: Word) -> Result<(), ReadError>
         requires kind { ⌜ word .kind ≡ 8 ⌝ }
         requires complete { ⌜ Complete (now self) ⌝ }
         requires begins { ⌜ 0 < vec-len (now self .starts) ⌝ }
@@ -316,7 +326,7 @@ impl Reader {
         Ok(())
     }
 
-    pub fn end(&mut self, place: usize, word: Word) -> Result<(), ReadError>
+    pub(crate) fn end(&mut self, place: usize, word: Word) -> Result<(), ReadError>
         requires kind { ⌜ word .kind ≡ 9 ⌝ }
         requires complete { ⌜ Complete (now self) ⌝ }
         requires begins { ⌜ 0 < vec-len (now self .starts) ⌝ }

@@ -15,7 +15,7 @@ use std::alloc::Global;
 
 impl Reader {
     // Takes the next word, by the stage and its kind.
-    pub fn step(&mut self, heap: Global, place: usize, word: Word) -> Result<(), ReadError>
+    pub(crate) fn step(&mut self, heap: Global, place: usize, word: Word) -> Result<(), ReadError>
         requires ready { ⌜ Ready (now self .stage) (now self) ⌝ }
         requires counted { ⌜ place ≡ length (said (part (now self))) ⌝ }
         ensures { λ r. ⌜ Took (said (part (now (self .entry)))) word place (wrong (holds place (now (self .entry))) word) r (now (self .exit)) ⌝ }
