@@ -1,4 +1,6 @@
 // Games written out in lists: what it costs to reach a goal from each state, and who can force it.
+#![tactic(auto)]
+
 pub mod arena;
 mod best;
 pub mod entry;

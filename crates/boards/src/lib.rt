@@ -1,4 +1,6 @@
 // Sets of states, one to a row, in memory handed in.
+#![tactic(auto)]
+
 mod bits;
 mod board;
 mod changes;

@@ -1,4 +1,6 @@
 // A case: goals of a system are entered, settled and asked about, and planned for.
+#![tactic(auto)]
+
 pub mod advice;
 pub mod calls;
 pub mod case;

@@ -1,4 +1,6 @@
 // Small cases at random: what the proved code answers against a second, plain reading of the same lists.
+#![tactic(auto)]
+
 mod ask;
 mod calls;
 mod crew;

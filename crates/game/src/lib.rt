@@ -1,4 +1,6 @@
 // What a system, a goal, a play and a plan mean, and the strategy theorem.
+#![tactic(auto)]
+
 pub mod choice;
 pub mod fault;
 pub mod goal;

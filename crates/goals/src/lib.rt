@@ -1,4 +1,6 @@
 // The set of a goal, over the rows of its operands.
+#![tactic(auto)]
+
 mod common;
 pub mod evaluate;
 mod plain;

@@ -1,4 +1,6 @@
 // The law over every list of calls of a case.
+#![tactic(auto)]
+
 pub mod call;
 
 ghost use Rattle.law.specs.Laws.{Law, RunsExist, SameAnswers, SidesAreParts};

@@ -1,4 +1,6 @@
 // Plans of a group in a system: where a goal is granted, with ranks and moves, and the lowest replies against it.
+#![tactic(auto)]
+
 pub mod objective;
 mod parts;
 pub mod plan;

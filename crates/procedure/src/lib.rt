@@ -1,4 +1,6 @@
 // Procedure files: an agents' system and its goals, as words.
+#![tactic(auto)]
+
 pub mod error;
 mod faults;
 mod kind;

@@ -1,4 +1,6 @@
 // Lists of calls run on a case, and the law over them.
+#![tactic(auto)]
+
 mod close;
 mod desk;
 mod plain;

@@ -1,4 +1,6 @@
 // Agents' systems and listed games, and any system written out as a table.
+#![tactic(auto)]
+
 pub mod agent;
 pub mod agents;
 pub mod agents_system;

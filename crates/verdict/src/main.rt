@@ -1,4 +1,6 @@
 // Reads a procedure from the standard input and prints the verdict on each of its goals, or a refusal alone.
+#![tactic(auto)]
+
 use anyhow::anyhow;
 use cases::stop::Stop;
 use std::io;
