@@ -20,4 +20,4 @@ full n size is =
 
 pub returns : goal.returns
 returns c =
-    c.new.ensures ∙ ap (blank c.args.states) (full _ _ (c.in-ok-memory.ensures.len ∙ ap (λ k. 64 * (k + 1)) c.min-width.ensures))
+    c.new.ensures ∙ ap (blank c.args.states) (full _ _ (c.in_ok-memory.ensures.len ∙ ap (λ k. 64 * (k + 1)) c.min-width.ensures))

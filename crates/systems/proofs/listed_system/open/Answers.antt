@@ -27,7 +27,7 @@ refused y _ (startless on none none' none'' off) =
     (and_right (not (some_of (bad_move y.states) y.moves.now)) _ off)))
 
 pub returns : goal.returns
-returns c = let y = c.args.lists.now in sym (cond-true (accepted y) (listed_meaning y) empty_game c.in-default.ensures)
+returns c = let y = c.args.lists.now in sym (cond-true (accepted y) (listed_meaning y) empty_game c.in_default.ensures)
 
 pub returns-in-Err : goal.returns-in-Err
 returns-in-Err c =

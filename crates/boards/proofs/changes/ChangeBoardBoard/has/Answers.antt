@@ -2,8 +2,8 @@ use Rattle.std.proofs.Common.{arith}
 use Rattle.boards.proofs.Memory.{rows_rise, inside}
 use Rattle.boards.proofs.changes.ChangeBoardBoard.has.Goals as goal
 
-pub holds-at-requires : goal.holds-at-requires
-holds-at-requires c =
+pub holds_at-requires : goal.holds_at-requires
+holds_at-requires c =
     let me = c.args.self.now in
     let r = c.args.row in
     let place = inside _ _ _ r me.fits c.if-row-self.false in

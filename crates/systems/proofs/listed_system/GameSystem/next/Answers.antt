@@ -17,8 +17,8 @@ returns-then-choice-lists-ne0 c =
     let ch = c.args.choice in
     sym (cond-false _ (leads y c.args.state ch) 0 (joint_long y.agents y.states (allows y) c.args.state ch (shift_long ch y.agents c.if-choice-lists-ne0.true)))
 
-pub masks-allow-requires : goal.masks-allow-requires
-masks-allow-requires c =
+pub masks_allow-requires : goal.masks_allow-requires
+masks_allow-requires c =
     let g = c.args.self.now in
     let f = fine g.lists g.fine in
     let y = g.lists in
@@ -36,15 +36,15 @@ tested g s ch hs hc =
     let test : ℕ → ℕ → ℕ → Bool = λ i s a. bit (get_or y.masks.now (s * y.agents + i) 0) a in
     joint-is y.agents y.states test s ch hs hc ∙ sym (actions_pass y.agents (λ i a. test i s a) ch (fine y g.fine).few_agents)
 
-pub returns-then-not-masks-allow : goal.returns-then-not-masks-allow
-returns-then-not-masks-allow c =
+pub returns-then-not-masks_allow : goal.returns-then-not-masks_allow
+returns-then-not-masks_allow c =
     let g = c.args.self.now in
     let y = g.lists in
     let s = c.args.state in
     let ch = c.args.choice in
     let off : joint y.agents y.states (allows y) s ch ≡ false =
     tested g s ch (omega arith) (shift_short ch y.agents c.if-choice-lists-ne0.false) ∙ ap (λ acts. all_below y.agents (λ i. bit (get_or y.masks.now (s * y.agents + i) 0) (get_or acts i 0))) (sym c.unpack-actions.ensures)
-    ∙ sym c.if-not-masks-allow.ensures in
+    ∙ sym c.if-not-masks_allow.ensures in
     sym (cond-false (joint y.agents y.states (allows y) s ch) (leads y s ch) 0 off)
 
 pub returns : goal.returns
@@ -55,7 +55,7 @@ returns c =
     let ch = c.args.choice in
     let on : joint y.agents y.states (allows y) s ch ≡ true =
     tested g s ch (omega arith) (shift_short ch y.agents c.if-choice-lists-ne0.false) ∙ ap (λ acts. all_below y.agents (λ i. bit (get_or y.masks.now (s * y.agents + i) 0) (get_or acts i 0))) (sym c.unpack-actions.ensures)
-    ∙ sym c.if-not-masks-allow.ensures in
+    ∙ sym c.if-not-masks_allow.ensures in
     let led : c.moved.result ≡ leads y s ch =
     c.moved.ensures ∙ ap (λ acts. given (λ l. move_fits l (record { state = s; actions = acts })) (λ l. l.next) s y.moves.now) c.unpack-actions.ensures in
     led ∙ sym (cond-true (joint y.agents y.states (allows y) s ch) (leads y s ch) 0 on)
