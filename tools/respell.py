@@ -14,7 +14,7 @@ import sys
 
 EDGE = r"\s(){}\[\].;,:@«»`"
 HEAD = re.compile(r"^(?:abbrev |unfoldable |private |irreducible )*(?:pub )?(?:abbrev |unfoldable |data |record |open )*([^\s:(){},]+)(?= *[({:]| :|$| where)")
-INNER = re.compile(r"^ +(?:pub )?([^\s:(){},]+) :")
+INNER = re.compile(r"^ +(?:abbrev |unfoldable )?(?:pub )?([^\s:(){},]+) :")
 SKIP = (" ", "--", "use", "infix", "pub use", "mod", "pub mod")
 # Names with a dash that the toolchain's script turned already: in pages they are turned here.
 MADE = re.compile(r"[a-z][a-z-]*-[a-z-]*$")
@@ -39,14 +39,12 @@ def text_of(path):
 
 def declared(text):
     """The names that a file of specs/ or proofs/ declares, but for the answers to goals."""
-    inside = False
     for line in text.split("\n"):
         if line and not line.startswith(SKIP):
-            inside = bool(re.match(r"^(pub )?(data|record) ", line))
             m = HEAD.match(line)
             if m and "goal." not in line:
                 yield m.group(1)
-        elif inside and line.startswith("  ") and not line.lstrip().startswith("--"):
+        elif line.startswith("  ") and "goal." not in line and not line.lstrip().startswith("--"):
             m = INNER.match(line)
             if m:
                 yield m.group(1)

@@ -27,13 +27,13 @@ xor_digit x y hx hy =
       | inr ex ↦ elim (two y hy) [ inl ey ↦ rw (ex, ey) refl | inr ey ↦ rw (ex, ey) refl ]
     ]
 
-bit-bit_or : (a b j : ℕ) → bit (bit_or a b) j ≡ (bit a j || bit b j)
-bit-bit_or a b j =
+bit_bit_or : (a b j : ℕ) → bit (bit_or a b) j ≡ (bit a j || bit b j)
+bit_bit_or a b j =
     ap (λ x. eqb (x % 2) 1) (or_shr a b j) ∙ ap (λ x. eqb x 1) (or_mod (a / 2 ^ j) (b / 2 ^ j) 1)
     ∙ or_digit (a / 2 ^ j % 2) (b / 2 ^ j % 2) (omega arith) (omega arith)
 
-bit-bit_xor : (a b j : ℕ) → bit (bit_xor a b) j ≡ cond (bit b j) (cond (bit a j) false true) (bit a j)
-bit-bit_xor a b j =
+bit_bit_xor : (a b j : ℕ) → bit (bit_xor a b) j ≡ cond (bit b j) (cond (bit a j) false true) (bit a j)
+bit_bit_xor a b j =
     ap (λ x. eqb (x % 2) 1) (xor_shr a b j) ∙ ap (λ x. eqb x 1) (xor_mod (a / 2 ^ j) (b / 2 ^ j) 1)
     ∙ xor_digit (a / 2 ^ j % 2) (b / 2 ^ j % 2) (omega arith) (omega arith)
 
@@ -79,7 +79,7 @@ mark_set ws r s v b hs hw bits q t ht =
 
 pub put_bits : (w k j : ℕ) → k < 64 → bit (bit_or w ((1 * 2 ^ k) % 2 ^ 64)) j ≡ cond (eqb j k) true (bit w j)
 put_bits w k j h =
-    ap (λ m. bit (bit_or w m) j) (one_shl k 64 h) ∙ bit-bit_or w (2 ^ k) j ∙ ap (λ x. bit w j || x) (bit_power k j) ∙ turned (bit w j) (eqb j k)
+    ap (λ m. bit (bit_or w m) j) (one_shl k 64 h) ∙ bit_bit_or w (2 ^ k) j ∙ ap (λ x. bit w j || x) (bit_power k j) ∙ turned (bit w j) (eqb j k)
   where
     turned : (x y : Bool) → (x || y) ≡ cond y true x
     turned true true = refl
@@ -89,8 +89,8 @@ put_bits w k j h =
 
 pub drop_bits : (w k j : ℕ) → k < 64 → bit (bit_xor (bit_or w ((1 * 2 ^ k) % 2 ^ 64)) ((1 * 2 ^ k) % 2 ^ 64)) j ≡ cond (eqb j k) false (bit w j)
 drop_bits w k j h =
-    ap (λ m. bit (bit_xor (bit_or w m) m) j) (one_shl k 64 h) ∙ bit-bit_xor (bit_or w (2 ^ k)) (2 ^ k) j
-    ∙ ap (λ x. cond (bit (2 ^ k) j) (cond x false true) x) (bit-bit_or w (2 ^ k) j)
+    ap (λ m. bit (bit_xor (bit_or w m) m) j) (one_shl k 64 h) ∙ bit_bit_xor (bit_or w (2 ^ k)) (2 ^ k) j
+    ∙ ap (λ x. cond (bit (2 ^ k) j) (cond x false true) x) (bit_bit_or w (2 ^ k) j)
     ∙ ap (λ x. cond x (cond (bit w j || x) false true) (bit w j || x)) (bit_power k j) ∙ cleared (bit w j) (eqb j k)
   where
     cleared : (x y : Bool) → cond y (cond (x || y) false true) (x || y) ≡ cond y false x

@@ -28,38 +28,38 @@ no_aims R φ g ψ x y z (of_always g' c) = y g c refl
 no_aims R φ g ψ x y z (of_until g' c d) = z g c d refl
 
 module _ (M : Meaning) (law : Lawful M) (R : ℕ → States) (φ : Goal) (g : ℕ) (es : List Entry) (s a : ℕ) where
-  pub next-answer : (c : ℕ) (o : Option ℕ) → φ ≡ Next g c → LowestInto M g s a (λ u. not (R c u)) o → RepliesAs M R φ es s a (unwrap_or o 0)
-  next-answer c o is low = by_aims M R φ es s a (unwrap_or o 0) g (nexttime (R c)) (subst (λ x. Aims R x g (nexttime (R c))) (sym is) (of_next g c))
+  pub next_answer : (c : ℕ) (o : Option ℕ) → φ ≡ Next g c → LowestInto M g s a (λ u. not (R c u)) o → RepliesAs M R φ es s a (unwrap_or o 0)
+  next_answer c o is low = by_aims M R φ es s a (unwrap_or o 0) g (nexttime (R c)) (subst (λ x. Aims R x g (nexttime (R c))) (sym is) (of_next g c))
       (λ f sheet hs out ga. ap (λ x. unwrap_or x 0) (replies_shown M law g (nexttime (R c)) es f sheet s hs out tt a ga o low))
 
   module _ (c : ℕ) (is : φ ≡ Always g c) where
-    own-always : Aims R φ g (always (R c))
-    own-always = subst (λ x. Aims R x g (always (R c))) (sym is) (of_always g c)
+    own_always : Aims R φ g (always (R c))
+    own_always = subst (λ x. Aims R x g (always (R c))) (sym is) (of_always g c)
 
-    pub always-none : rank_in es s ≡ 0 → RepliesAs M R φ es s a 0
-    always-none low = by_aims M R φ es s a 0 g (always (R c)) own-always (λ f sheet hs out ga. elim (true_or_false (R c s)) [
+    pub always_none : rank_in es s ≡ 0 → RepliesAs M R φ es s a 0
+    always_none low = by_aims M R φ es s a 0 g (always (R c)) own_always (λ f sheet hs out ga. elim (true_or_false (R c s)) [
       | inl hc ↦ absurd (let e = ((sheet.denied s hs out).1 hc).1 in omega arith)
       | inr nc ↦ sym (((sheet.denied s hs out).0 nc).1 a ga)
     ])
 
-    pub always-answer : (o : Option ℕ) → ¬ (rank_in es s ≡ 0) → LowestInto M g s a (losing es (rank_in es s - 1)) o → RepliesAs M R φ es s a (unwrap_or o 0)
-    always-answer o more low = by_aims M R φ es s a (unwrap_or o 0) g (always (R c)) own-always (λ f sheet hs out ga. elim (true_or_false (R c s)) [
+    pub always_answer : (o : Option ℕ) → ¬ (rank_in es s ≡ 0) → LowestInto M g s a (losing es (rank_in es s - 1)) o → RepliesAs M R φ es s a (unwrap_or o 0)
+    always_answer o more low = by_aims M R φ es s a (unwrap_or o 0) g (always (R c)) own_always (λ f sheet hs out ga. elim (true_or_false (R c s)) [
       | inl hc ↦ ap (λ x. unwrap_or x 0) (replies_shown M law g (always (R c)) es f sheet s hs out hc a ga o low)
       | inr nc ↦ absurd (more ((sheet.denied s hs out).0 nc).0)
     ])
 
   module _ (c d : ℕ) (is : φ ≡ Until g c d) where
-    own-until : Aims R φ g (until (R c) (R d))
-    own-until = subst (λ x. Aims R x g (until (R c) (R d))) (sym is) (of_until g c d)
+    own_until : Aims R φ g (until (R c) (R d))
+    own_until = subst (λ x. Aims R x g (until (R c) (R d))) (sym is) (of_until g c d)
 
     pub until_none : rank_in es s ≡ 0 → RepliesAs M R φ es s a 0
-    until_none low = by_aims M R φ es s a 0 g (until (R c) (R d)) own-until (λ f sheet hs out ga. elim (true_or_false (R c s)) [
+    until_none low = by_aims M R φ es s a 0 g (until (R c) (R d)) own_until (λ f sheet hs out ga. elim (true_or_false (R c s)) [
       | inl hc ↦ absurd (omega (arith, ((sheet.denied s hs out).1 hc).0))
       | inr nc ↦ sym (((sheet.denied s hs out).0 nc).1 a ga)
     ])
 
-    pub until-answer : (o : Option ℕ) → ¬ (rank_in es s ≡ 0) → LowestInto M g s a (losing es 65535) o → RepliesAs M R φ es s a (unwrap_or o 0)
-    until-answer o more low = by_aims M R φ es s a (unwrap_or o 0) g (until (R c) (R d)) own-until (λ f sheet hs out ga. elim (true_or_false (R c s)) [
+    pub until_answer : (o : Option ℕ) → ¬ (rank_in es s ≡ 0) → LowestInto M g s a (losing es 65535) o → RepliesAs M R φ es s a (unwrap_or o 0)
+    until_answer o more low = by_aims M R φ es s a (unwrap_or o 0) g (until (R c) (R d)) own_until (λ f sheet hs out ga. elim (true_or_false (R c s)) [
       | inl hc ↦ ap (λ x. unwrap_or x 0) (replies_shown M law g (until (R c) (R d)) es f sheet s hs out hc a ga o low)
       | inr nc ↦ absurd (more ((sheet.denied s hs out).0 nc).0)
     ])

@@ -5,7 +5,7 @@ use Rattle.game.specs.Objectives.{nexttime, always, until, States}
 use Rattle.game.specs.Formulas.{Aims, of_next, of_always, of_until}
 use Rattle.game.specs.declared.goal.Goal.{Goal}
 use Rattle.game.specs.declared.goal.Goal.TheVariants.{Next, Always, Until}
-use Rattle.game.proofs.Sheeting.{sheet-like}
+use Rattle.game.proofs.Sheeting.{sheet_like}
 use Rattle.arenas.specs.declared.entry.Entry.{Entry}
 use Rattle.plans.specs.Drawing.{granted_in, rank_in, choice_in, Drawn}
 use Rattle.law.specs.Worlds.{Plan, Model, goal_at, IsPlan, with_replies}
@@ -36,5 +36,5 @@ is_plan M law m f es low d =
       objective = d.objective;
       aims = d.aims;
       set = k.right;
-      sheet = (k.sheet.reply, sheet-like M law d.group (granted_in es) k.sheet (with_replies (shown f es) k.sheet.reply) (λ t ht. sym (k.rank t ht)) (λ t ht. sym (k.move t ht)) (λ t a. refl) d.objective k.is_sheet);
+      sheet = (k.sheet.reply, sheet_like M law d.group (granted_in es) k.sheet (with_replies (shown f es) k.sheet.reply) (λ t ht. sym (k.rank t ht)) (λ t ht. sym (k.move t ht)) (λ t a. refl) d.objective k.is_sheet);
     }

@@ -23,12 +23,12 @@ module _ (M : Meaning) (m : Model) (qs : List Play) (i b start : ℕ) (told : Li
       let state = lt-leb M.states t.state known in
       ap (λ o. first (telling M (world m qs) (awaiting_reply o) b)) at ∙ (λ j. first ((20, board j) ∷ (35, sheet j) ∷ (33, state j) ∷ (38, not (fits j)) ∷ []))
 
-  pub tell-refused : fits_side M (λ k. not (member (group_of (aim m)) k)) t.state b ≡ false → (e : Fault) → e ≡ fault 38 → Step M (world m qs) (Tell i b) (Refused e) (world m qs)
-  tell-refused fits e is = subst (λ x. Step M (world m qs) (Tell i b) (Refused x) (world m qs)) (sym is) (step_refused M (world m qs) (Tell i b) (fault 38) (tests false fits) refl)
+  pub tell_refused : fits_side M (λ k. not (member (group_of (aim m)) k)) t.state b ≡ false → (e : Fault) → e ≡ fault 38 → Step M (world m qs) (Tell i b) (Refused e) (world m qs)
+  tell_refused fits e is = subst (λ x. Step M (world m qs) (Tell i b) (Refused x) (world m qs)) (sym is) (step_refused M (world m qs) (Tell i b) (fault 38) (tests false fits) refl)
 
-  pub tell-does : fits_side M (λ k. not (member (group_of (aim m)) k)) t.state b ≡ true → (s : ℕ) → s ≡ M.next t.state (t.choice + b) →
+  pub tell_does : fits_side M (λ k. not (member (group_of (aim m)) k)) t.state b ≡ true → (s : ℕ) → s ≡ M.next t.state (t.choice + b) →
       Step M (world m qs) (Tell i b) Done (world m (set qs i (moving start ((t.choice, b) ∷ told) (record { state = s; steps = t.steps + 1 }))))
-  tell-does fits s is =
+  tell_does fits s is =
       let after : ℕ → ℕ → World = λ x n. world m (set qs i (record { start = start; told = (t.choice, b) ∷ told; state = x; steps = n; turn = to_move })) in
       let more : t.steps + 1 ≡ suc t.steps = omega arith in
       step_does M (world m qs) (Tell i b) Done (after s (t.steps + 1)) (tests true fits)

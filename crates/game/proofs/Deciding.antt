@@ -27,16 +27,16 @@ module _ (M : Meaning) (g t : ℕ) (X : ℕ → Type 0) (each : (u : ℕ) → De
   unfolding least? lead?
   move? a = least? (λ x. GroupChoice M g t x × Leads M g t X x) (lead? M g X each t) a
 
-  unfoldable pub to-all : (P : ℕ → Type 0) → ((a : ℕ) → Decided (P a)) → Decided ((a : ℕ) → GroupChoice M g t a → P a)
+  unfoldable pub to_all : (P : ℕ → Type 0) → ((a : ℕ) → Decided (P a)) → Decided ((a : ℕ) → GroupChoice M g t a → P a)
   unfolding below? part?
-  to-all P each = elim (below? (λ a. GroupChoice M g t a → P a) (λ a. if? (part? M (member g) t a) (each a)) (4 ^ M.agents)) [
+  to_all P each = elim (below? (λ a. GroupChoice M g t a → P a) (λ a. if? (part? M (member g) t a) (each a)) (4 ^ M.agents)) [
     | inl all ↦ inl (λ a ga. all a ga.fits ga)
     | inr f ↦ inr (λ all. f (λ a _. all a))
   ]
 
   unfoldable pub replies? : (f : ℕ → ℕ) → Decided (LowestReplies M g t X f)
-  unfolding to-all least? answer?
-  replies? f = to-all (λ a. Least (λ b. Reply M g t b × X (M.next t (a + b))) (f a)) (λ a. least? (λ b. Reply M g t b × X (M.next t (a + b))) (answer? M g X each t a) (f a))
+  unfolding to_all least? answer?
+  replies? f = to_all (λ a. Least (λ b. Reply M g t b × X (M.next t (a + b))) (f a)) (λ a. least? (λ b. Reply M g t b × X (M.next t (a + b))) (answer? M g X each t a) (f a))
 
 module _ (M : Meaning) (g : ℕ) (P : States) (S : Sheet) where
   unfoldable pub near? : (r u : ℕ) → Decided ((u ∈ P) × (S.rank u ≤ r))
@@ -65,9 +65,9 @@ module _ (M : Meaning) (g : ℕ) (P : States) (S : Sheet) where
           ]
 
   unfoldable pub denied? : (φ : Objective) (t : ℕ) → Decided (WhereDenied M g φ P S t)
-  unfolding replies? to-all suc? least? evades? far? ℕ_discrete
+  unfolding replies? to_all suc? least? evades? far? ℕ_discrete
   denied? (nexttime c) t = both? (same? (S.rank t) 1) (replies? M g t (λ u. u ∉ c) (λ u. false? (c u)) (S.reply t))
-  denied? (always c) t = both? (if? (false? (c t)) (both? (same? (S.rank t) 0) (to-all M g t (λ u. u ∈ c) (λ u. true? (c u)) (λ a. S.reply t a ≡ 0) (λ a. same? (S.reply t a) 0)))) (if? (true? (c t)) row)
+  denied? (always c) t = both? (if? (false? (c t)) (both? (same? (S.rank t) 0) (to_all M g t (λ u. u ∈ c) (λ u. true? (c u)) (λ a. S.reply t a ≡ 0) (λ a. same? (S.reply t a) 0)))) (if? (true? (c t)) row)
     where
       Row : ℕ → Type 0
       Row r = Least (λ x. Evades M g (λ u. (u ∉ P) × (S.rank u ≤ x)) t) r × LowestReplies M g t (λ u. (u ∉ P) × (S.rank u ≤ r)) (S.reply t)
@@ -80,7 +80,7 @@ module _ (M : Meaning) (g : ℕ) (P : States) (S : Sheet) where
             | inr f ↦ inr (λ (r, e, l, m). f (r, e, (l, m)))
           ]
   denied? (until c d) t = both?
-      (if? (false? (c t)) (both? (same? (S.rank t) 0) (to-all M g t (λ u. u ∈ c) (λ u. true? (c u)) (λ a. S.reply t a ≡ 0) (λ a. same? (S.reply t a) 0))))
+      (if? (false? (c t)) (both? (same? (S.rank t) 0) (to_all M g t (λ u. u ∈ c) (λ u. true? (c u)) (λ a. S.reply t a ≡ 0) (λ a. same? (S.reply t a) 0))))
       (if? (true? (c t)) (both? (same? (S.rank t) 1) (replies? M g t (λ u. u ∉ P) (λ u. false? (P u)) (S.reply t))))
 
   unfoldable pub rows? : (φ : Objective) → Decided ((t : ℕ) → t < M.states → (t ∈ P → WhereGranted M g φ P S t) × (t ∉ P → WhereDenied M g φ P S t))
@@ -88,5 +88,5 @@ module _ (M : Meaning) (g : ℕ) (P : States) (S : Sheet) where
   rows? φ = below? (λ t. (t ∈ P → WhereGranted M g φ P S t) × (t ∉ P → WhereDenied M g φ P S t))
       (λ t. both? (if? (true? (P t)) (granted? φ t)) (if? (false? (P t)) (denied? φ t))) M.states
 
-  pub sheet-by-test : (φ : Objective) → passes (rows? φ) ≡ true → IsSheet M g φ P S
-  sheet-by-test φ h = let all = passed (rows? φ) h in record { granted = λ t ht. (all t ht).0; denied = λ t ht. (all t ht).1 }
+  pub sheet_by_test : (φ : Objective) → passes (rows? φ) ≡ true → IsSheet M g φ P S
+  sheet_by_test φ h = let all = passed (rows? φ) h in record { granted = λ t ht. (all t ht).0; denied = λ t ht. (all t ht).1 }

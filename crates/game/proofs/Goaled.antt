@@ -21,21 +21,21 @@ module _ (M : Meaning) (law : Lawful M) (R : ℕ → States) (φ : Goal) where
   test s (yes h) = passes (holds? M law R φ s h)
   test s (no h) = false
 
-  test-is : (s : ℕ) (d : Dec (s < M.states)) → s < M.states → test s d ≡ true ↔ Holds M R φ s
+  test_is : (s : ℕ) (d : Dec (s < M.states)) → s < M.states → test s d ≡ true ↔ Holds M R φ s
   unfolding test
-  test-is s (yes h) hs = (λ p. passed (holds? M law R φ s h) p, λ x. passes_true (holds? M law R φ s h) x)
-  test-is s (no h) hs = absurd (h hs)
+  test_is s (yes h) hs = (λ p. passed (holds? M law R φ s h) p, λ x. passes_true (holds? M law R φ s h) x)
+  test_is s (no h) hs = absurd (h hs)
 
-  test-past : (s : ℕ) (d : Dec (s < M.states)) → M.states ≤ s → test s d ≡ false
+  test_past : (s : ℕ) (d : Dec (s < M.states)) → M.states ≤ s → test s d ≡ false
   unfolding test
-  test-past s (yes h) hs = absurd (omega arith)
-  test-past s (no h) hs = refl
+  test_past s (yes h) hs = absurd (omega arith)
+  test_past s (no h) hs = refl
 
 pub goals_have_sets : GoalsHaveSets
 goals_have_sets M law R φ = (
   λ s. test M law R φ s (dec_lt s M.states),
   record {
-    decides = λ s hs. test-is M law R φ s (dec_lt s M.states) hs;
-    past = λ s hs. test-past M law R φ s (dec_lt s M.states) hs;
+    decides = λ s hs. test_is M law R φ s (dec_lt s M.states) hs;
+    past = λ s hs. test_past M law R φ s (dec_lt s M.states) hs;
   },
 )

@@ -4,7 +4,7 @@ use native.Mathlib.Decide.{dec_lt}
 use Rattle.game.specs.Meaning.{Meaning, Lawful, member}
 use Rattle.game.specs.Objectives.{Objective, nexttime, always, until, States, ◌∈◌, ◌∉◌, Granted}
 use Rattle.game.proofs.Bounded.{all_or_some, true_or_false, clash, Decided, passes, passed, true?, false?, same?, both?, if?, below?}
-use Rattle.game.proofs.Rounds.{Reached, reached-closed, reached-all}
+use Rattle.game.proofs.Rounds.{Reached, reached_closed, reached_all}
 use Rattle.game.proofs.Strategy.{sheets_exist}
 use Rattle.game.specs.Goals.{Goal, TRUE, ATOM, NOT, OR, AND, EACH, COMMON, JOINT, NEXT, ALWAYS, UNTIL}
 use Rattle.game.specs.Formulas.{Doubts, Blind, Chain, stay, pass, Holds}
@@ -51,29 +51,29 @@ module _ (M : Meaning) (g : ℕ) where
   bads : States → States → States
   bads C X s = passes (bad? C X s)
 
-  bads-mono : (C X Y : States) → ((u : ℕ) → u < M.states → u ∈ X → u ∈ Y) → (t : ℕ) → t < M.states → t ∈ bads C X → t ∈ bads C Y
+  bads_mono : (C X Y : States) → ((u : ℕ) → u < M.states → u ∈ X → u ∈ Y) → (t : ℕ) → t < M.states → t ∈ bads C X → t ∈ bads C Y
   unfolding bads Bad
-  bads-mono C X Y sub t ht h = passes_true (bad? C Y t) (elim (passed (bad? C X t) h) [ inl n ↦ inl n | inr (u, hu, (d, x)) ↦ inr (u, hu, (d, sub u hu x)) ])
+  bads_mono C X Y sub t ht h = passes_true (bad? C Y t) (elim (passed (bad? C X t) h) [ inl n ↦ inl n | inr (u, hu, (d, x)) ↦ inr (u, hu, (d, sub u hu x)) ])
 
   common? : (C : States) (s : ℕ) → s < M.states → Decided ((t : ℕ) → Chain M g s t → t ∈ C)
   unfolding bads Bad
-  common? C s hs = elim (true_or_false (Reached M.states (bads C) (bads-mono C) s)) [
+  common? C s hs = elim (true_or_false (Reached M.states (bads C) (bads_mono C) s)) [
     | inl bad ↦ inr (λ all. let (t, c, n) = found s hs bad in clash (all t c) n)
     | inr good ↦ inl (λ t c. fine s t hs c good)
   ]
     where
-      found : (s : ℕ) → s < M.states → s ∈ Reached M.states (bads C) (bads-mono C) → (t : ℕ) × Chain M g s t × (t ∉ C)
-      found = reached-all M.states (bads C) (bads-mono C) (λ s. (t : ℕ) × Chain M g s t × (t ∉ C)) (λ X sub t ht h. elim (passed (bad? C X t) h) [
+      found : (s : ℕ) → s < M.states → s ∈ Reached M.states (bads C) (bads_mono C) → (t : ℕ) × Chain M g s t × (t ∉ C)
+      found = reached_all M.states (bads C) (bads_mono C) (λ s. (t : ℕ) × Chain M g s t × (t ∉ C)) (λ X sub t ht h. elim (passed (bad? C X t) h) [
         | inl n ↦ (t, stay t, n)
         | inr (u, hu, (d, x)) ↦ let (v, c, n) = sub u hu x in (v, pass t u v hu d c, n)
       ])
 
-      back : (s : ℕ) → s < M.states → Bad C (Reached M.states (bads C) (bads-mono C)) s → s ∈ Reached M.states (bads C) (bads-mono C)
-      back s hs h = reached-closed M.states (bads C) (bads-mono C) s hs (passes_true (bad? C (Reached M.states (bads C) (bads-mono C)) s) h)
+      back : (s : ℕ) → s < M.states → Bad C (Reached M.states (bads C) (bads_mono C)) s → s ∈ Reached M.states (bads C) (bads_mono C)
+      back s hs h = reached_closed M.states (bads C) (bads_mono C) s hs (passes_true (bad? C (Reached M.states (bads C) (bads_mono C)) s) h)
 
-      fine : (s t : ℕ) → s < M.states → Chain M g s t → s ∉ Reached M.states (bads C) (bads-mono C) → t ∈ C
+      fine : (s t : ℕ) → s < M.states → Chain M g s t → s ∉ Reached M.states (bads C) (bads_mono C) → t ∈ C
       fine s t hs (stay s') good = elim (true_or_false (C t)) [ inl y ↦ y | inr n ↦ absurd (clash (back t hs (inl n)) good) ]
-      fine s t hs (pass s' u t' hu d c) good = fine u t hu c (elim (true_or_false (Reached M.states (bads C) (bads-mono C) u)) [
+      fine s t hs (pass s' u t' hu d c) good = fine u t hu c (elim (true_or_false (Reached M.states (bads C) (bads_mono C) u)) [
         | inl bad ↦ absurd (clash (back s hs (inr (u, hu, (d, bad)))) good)
         | inr ok ↦ ok
       ])

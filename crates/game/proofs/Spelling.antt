@@ -4,7 +4,7 @@ use Rattle.std.proofs.lemmas.Bool.{ltb-true, and_parts}
 use Rattle.game.specs.Meaning.{Meaning, Lawful, Reply, GroupChoice, Pre}
 use Rattle.game.specs.Objectives.{Objective, nexttime, always, until, States, ◌∈◌, ◌∉◌, Granted, Inside, Contains}
 use Rattle.game.proofs.Bounded.{true_or_false, clash}
-use Rattle.game.proofs.Planned.{pre-map}
+use Rattle.game.proofs.Planned.{pre_map}
 use Rattle.game.specs.Goals.{Goal, TRUE, ATOM, NOT, OR, AND, EACH, COMMON, JOINT, NEXT, ALWAYS, UNTIL, earlier, group_of}
 use Rattle.game.specs.Formulas.{Doubts, Blind, Chain, stay, pass, Aims, of_next, of_always, of_until, Holds, Formula, no', or', and', each, common, joint, next', always', until', Sat, over, written, formula}
 
@@ -36,8 +36,8 @@ module _ (M : Meaning) (law : Lawful M) (R : ℕ → States) (F : ℕ → Formul
   agree (COMMON g c) e s hs = (λ h t d. (at_op c e t (chain_known M g s t hs d)).0 (h t d), λ h t d. (at_op c e t (chain_known M g s t hs d)).1 (h t d))
   agree (JOINT g c) e s hs = (λ h t ht d. (at_op c e t ht).0 (h t ht d), λ h t ht d. (at_op c e t ht).1 (h t ht d))
   agree (NEXT g c) e s hs = (
-    λ h. pre-map M law g (λ u. u ∈ R c) (λ u. Sat M (F c) u) s hs (λ u hu x. (at_op c e u hu).0 x) h,
-    λ h. pre-map M law g (λ u. Sat M (F c) u) (λ u. u ∈ R c) s hs (λ u hu x. (at_op c e u hu).1 x) h,
+    λ h. pre_map M law g (λ u. u ∈ R c) (λ u. Sat M (F c) u) s hs (λ u hu x. (at_op c e u hu).0 x) h,
+    λ h. pre_map M law g (λ u. Sat M (F c) u) (λ u. u ∈ R c) s hs (λ u hu x. (at_op c e u hu).1 x) h,
   )
   agree (ALWAYS g c) e s hs = (
     λ (Y, ins, y). (Y, (λ t ht ty. ((at_op c e t ht).0 (ins t ht ty).0, (ins t ht ty).1)), y),

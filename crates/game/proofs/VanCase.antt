@@ -7,10 +7,10 @@ use Rattle.game.specs.Objectives.{◌∈◌}
 use Rattle.game.specs.Sheets.{Sheet, IsSheet}
 use Rattle.game.specs.Van.{van, may, moved, local, goal, counted, everywhere, alone_set, alone_sheet, both_sheet, VanCase}
 use Rattle.game.proofs.Bounded.{true_or_false, clash, and_out, below?, true?, if?, of_dec, passed}
-use Rattle.game.proofs.Deciding.{rows?, sheet-by-test}
+use Rattle.game.proofs.Deciding.{rows?, sheet_by_test}
 use Rattle.game.proofs.Steps.{part?}
-use Rattle.game.proofs.Agreeing.{until-agree}
-use Rattle.game.proofs.Certified.{until-certified}
+use Rattle.game.proofs.Agreeing.{until_agree}
+use Rattle.game.proofs.Certified.{until_certified}
 
 may_wait : (i : ℕ) → i < 2 → (t : ℕ) → t < 4 → van.allowed i t 0 ≡ true
 unfolding below?
@@ -86,11 +86,11 @@ lawful = record {
 
 alone : IsSheet van 2 goal alone_set alone_sheet
 unfolding rows?
-alone = sheet-by-test van 2 alone_set alone_sheet goal refl
+alone = sheet_by_test van 2 alone_set alone_sheet goal refl
 
 both : IsSheet van 3 goal everywhere both_sheet
 unfolding rows?
-both = sheet-by-test van 3 everywhere both_sheet goal refl
+both = sheet_by_test van 3 everywhere both_sheet goal refl
 
 alone_has : (t : ℕ) → t < 4 → t ∈ counted → t ∈ alone_set
 unfolding below?
@@ -102,13 +102,13 @@ wait = passed (part? van (member 2) 0 0) refl
 
 alone_values : (S : Sheet) → IsSheet van 2 goal alone_set S → (S.rank 1 ≡ 1) × (S.move 1 ≡ 4) × (S.rank 0 ≡ 1) × (S.reply 0 0 ≡ 0)
 alone_values S sheet =
-    let at_1 = until-agree van lawful 2 everywhere counted alone_set S alone_sheet sheet alone 1 (omega arith) in
-    let at-0 = until-agree van lawful 2 everywhere counted alone_set S alone_sheet sheet alone 0 (omega arith) in
+    let at_1 = until_agree van lawful 2 everywhere counted alone_set S alone_sheet sheet alone 1 (omega arith) in
+    let at-0 = until_agree van lawful 2 everywhere counted alone_set S alone_sheet sheet alone 0 (omega arith) in
     (at_1.0, at_1.1 refl, at-0.0, at-0.2 refl 0 wait)
 
 both_values : (S : Sheet) → IsSheet van 3 goal everywhere S → (S.rank 0 ≡ 2) × (S.move 0 ≡ 1)
 both_values S sheet =
-    let at-0 = until-agree van lawful 3 everywhere counted everywhere S both_sheet sheet both 0 (omega arith) in
+    let at-0 = until_agree van lawful 3 everywhere counted everywhere S both_sheet sheet both 0 (omega arith) in
     (at-0.0, at-0.1 refl)
 
 pub van_case : VanCase
@@ -118,12 +118,12 @@ van_case = record {
   step_4 = refl;
   alone = alone;
   alone_is = record {
-    decides = until-certified van lawful 2 everywhere counted alone_set alone_sheet alone alone_has (λ t ht p nd. lt-ltb t 4 ht);
+    decides = until_certified van lawful 2 everywhere counted alone_set alone_sheet alone alone_has (λ t ht p nd. lt-ltb t 4 ht);
     past = λ t h. rw (le-ltb t 4 h) refl;
   };
   both = both;
   both_is = record {
-    decides = until-certified van lawful 3 everywhere counted everywhere both_sheet both (λ t ht hd. lt-ltb t 4 ht) (λ t ht p nd. lt-ltb t 4 ht);
+    decides = until_certified van lawful 3 everywhere counted everywhere both_sheet both (λ t ht hd. lt-ltb t 4 ht) (λ t ht p nd. lt-ltb t 4 ht);
     past = λ t h. le-ltb t 4 h;
   };
   alone_values = alone_values;

@@ -22,7 +22,7 @@ use Rattle.law.specs.Laws.{Followed, Played, InPlay}
 use Rattle.game.proofs.Spelling.{aims_group}
 use Rattle.law.proofs.Sides.{sides_are_parts}
 use Rattle.law.proofs.Moving.{moves}
-use Rattle.law.proofs.Kept.{Fit, Kept, aim_is, row_plan, settles, play_same, fit_entered, fit-settled, play-settled, fit_planned, fit_struck}
+use Rattle.law.proofs.Kept.{Fit, Kept, aim_is, row_plan, settles, play_same, fit_entered, fit_settled, play_settled, fit_planned, fit_struck}
 
 abbrev pub Fails : ℕ × Bool → Type 0
 Fails x = x.1 ≡ false
@@ -85,10 +85,10 @@ has_sheet (Some p) e = (p, refl)
 
 -- the sheet's move at a granted state where the goal is not met
 module _ (M : Meaning) (law : Lawful M) (m : Model) (fit : Fit M m) (p : Plan) (e : m.plan ≡ Some p) where
-  move-of : (s k : ℕ) → s < M.states → s ∈ p.granted → met_by m.rows (aim m) s k ≡ false →
+  move_of : (s k : ℕ) → s < M.states → s ∈ p.granted → met_by m.rows (aim m) s k ≡ false →
       GroupChoice M (group_of (aim m)) s (p.move s) × ((r : ℕ) → Reply M (group_of (aim m)) s r →
       (M.next s (p.move s + r) < M.states) × (met_by m.rows (aim m) (M.next s (p.move s + r)) (suc k) ≡ false → M.next s (p.move s + r) ∈ p.granted))
-  move-of s k hs hg out =
+  move_of s k hs hg out =
       let h = row_plan M m fit p e in
       let ai = aim_is m p e in
       let gr : group_of (aim m) ≡ h.group = ap group_of ai ∙ aims_group m.rows.marked (goal_at m p.goal) h.group h.goal h.aims in
@@ -138,7 +138,7 @@ announce_kept M law w i (Some q) e r w' t (p, ep, er, ew) k =
     let same : p' ≡ p = cc in
     let pl = subst (λ x. Played M (group_of (aim m)) x (met_by m.rows (aim m)) q) same pl' in
     let out = t.1.1.1.0 in
-    let mv = move-of M law m k.fit p ep q.state q.steps pl.stands.0 (pl.granted out) out in
+    let mv = move_of M law m k.fit p ep q.state q.steps pl.stands.0 (pl.granted out) out in
     let new : Played M (group_of (aim m)) p (met_by m.rows (aim m)) (announced q (p.move q.state)) = record {
       begins = pl.begins;
       stands = pl.stands;
@@ -167,7 +167,7 @@ tell_kept M law w i b (Some x) e r w' t h k =
     let (is_move, ga, out) = pl.announces a et in
     let hg = pl.granted out in
     let rb : Reply M g q.state b = (sides_are_parts M (λ i. not (member g i)) q.state b).0 (not-false _ t.1.1.1.0) in
-    let mv = move-of M law m k.fit p ep q.state q.steps pl.stands.0 hg out in
+    let mv = move_of M law m k.fit p ep q.state q.steps pl.stands.0 hg out in
     let on = mv.1 b rb in
     let new : Played M g p over (answered M q a b) = record {
       begins = pl.begins;
@@ -221,8 +221,8 @@ does_kept M law w settle r w' t h k =
     let same = same_states M m t.0 in
     let row = settles M m w'.model same h.1 in
     record {
-      fit = fit-settled M m w'.model k.fit row more same;
-      plays = subst (All (InPlay M w'.model)) (sym h.2) (All-weaker (InPlay M m) (InPlay M w'.model) (λ q. play-settled M m w'.model k.fit row q more) w.plays k.plays);
+      fit = fit_settled M m w'.model k.fit row more same;
+      plays = subst (All (InPlay M w'.model)) (sym h.2) (All-weaker (InPlay M m) (InPlay M w'.model) (λ q. play_settled M m w'.model k.fit row q more) w.plays k.plays);
       few = omega (arith, ap length h.2, k.few);
     }
 does_kept M law w (query f s) r w' t h k = subst (Kept M) (sym h.1) k

@@ -150,31 +150,31 @@ fit_entered M m φ low early k =
     }
 
 module _ (M : Meaning) (m m' : Model) (k : Fit M m) (h : Settles M m m') where
-  pub settled-rows : (q : ℕ) → ¬ (q ≡ m.settled) → m'.rows.marked q ≡ m.rows.marked q
-  settled-rows q ne = fun_ext (λ t. h.other q t ne)
+  pub settled_rows : (q : ℕ) → ¬ (q ≡ m.settled) → m'.rows.marked q ≡ m.rows.marked q
+  settled_rows q ne = fun_ext (λ t. h.other q t ne)
 
-  pub settled-goal : (f : ℕ) → goal_at m' f ≡ goal_at m f
-  settled-goal f = ap (λ l. get_or l f TRUE) h.goals
+  pub settled_goal : (f : ℕ) → goal_at m' f ≡ goal_at m f
+  settled_goal f = ap (λ l. get_or l f TRUE) h.goals
 
-  over-new : (f s : ℕ) → f < length m.goals → f ≤ m.settled → Holds M m.rows.marked (goal_at m f) s ↔ Holds M m'.rows.marked (goal_at m f) s
-  over-new f s hf low = (
-    holds_same M m'.rows.marked m.rows.marked f (λ c hc. sym (settled-rows c (λ e. omega arith))) (goal_at m f) (k.ordered f hf) s,
-    holds_same M m.rows.marked m'.rows.marked f (λ c hc. settled-rows c (λ e. omega arith)) (goal_at m f) (k.ordered f hf) s,
+  over_new : (f s : ℕ) → f < length m.goals → f ≤ m.settled → Holds M m.rows.marked (goal_at m f) s ↔ Holds M m'.rows.marked (goal_at m f) s
+  over_new f s hf low = (
+    holds_same M m'.rows.marked m.rows.marked f (λ c hc. sym (settled_rows c (λ e. omega arith))) (goal_at m f) (k.ordered f hf) s,
+    holds_same M m.rows.marked m'.rows.marked f (λ c hc. settled_rows c (λ e. omega arith)) (goal_at m f) (k.ordered f hf) s,
   )
 
-  pub fit-settled : m.settled < length m.goals → m.rows.states ≡ M.states → Fit M m'
-  fit-settled more same = record {
+  pub fit_settled : m.settled < length m.goals → m.rows.states ≡ M.states → Fit M m'
+  fit_settled more same = record {
     within = omega (arith, h.settled, ap length h.goals);
     room = omega (arith, k.room, h.rows, ap length h.goals);
-    ordered = λ f hf. ap (earlier f) (settled-goal f) ∙ k.ordered f (omega (arith, ap length h.goals));
-    right = λ f hf s hs. subst (λ ψ. s ∈ m'.rows.marked f ↔ Holds M m'.rows.marked ψ s) (sym (settled-goal f)) (elim (cases_eq f m.settled) [
+    ordered = λ f hf. ap (earlier f) (settled_goal f) ∙ k.ordered f (omega (arith, ap length h.goals));
+    right = λ f hf s hs. subst (λ ψ. s ∈ m'.rows.marked f ↔ Holds M m'.rows.marked ψ s) (sym (settled_goal f)) (elim (cases_eq f m.settled) [
       | inl e ↦
-          let o = over-new f s (omega arith) (omega arith) in
+          let o = over_new f s (omega arith) (omega arith) in
           let a : s ∈ m'.rows.marked f ↔ Holds M m.rows.marked (goal_at m f) s = subst (λ n. s ∈ m'.rows.marked n ↔ Holds M m.rows.marked (goal_at m n) s) (sym e) (h.here (omega (arith, k.room)) s hs) in
           (λ x. o.0 (a.0 x), λ x. a.1 (o.1 x))
       | inr ne ↦
           let lt : f < m.settled = omega (arith, h.settled) in
-          let o = over-new f s (omega arith) (omega arith) in
+          let o = over_new f s (omega arith) (omega arith) in
           let a = k.right f lt s hs in
           (λ x. o.0 (a.0 (sym (h.other f s ne) ∙ x)), λ x. h.other f s ne ∙ a.1 (o.1 x))
     ]);
@@ -185,7 +185,7 @@ module _ (M : Meaning) (m m' : Model) (k : Fit M m) (h : Settles M m m') where
     sheet = λ p e.
         let old = k.sheet p (sym h.plan ∙ e) in
         let lt = old.settled in
-        plan_same M m m' p old (omega (arith, h.settled)) (settled-goal p.goal) (k.ordered p.goal (omega (arith, k.within))) (λ q hq. settled-rows q (λ eq. omega arith));
+        plan_same M m m' p old (omega (arith, h.settled)) (settled_goal p.goal) (k.ordered p.goal (omega (arith, k.within))) (λ q hq. settled_rows q (λ eq. omega arith));
     sound = record {
       few = omega (arith, k.sound.few, h.rows);
       some = λ more. let z = k.sound.some (omega (arith, h.rows)) in (omega (arith, h.states, z.0), omega (arith, h.states, z.1));
@@ -199,8 +199,8 @@ module _ (M : Meaning) (m m' : Model) (k : Fit M m) (h : Settles M m m') where
     };
   }
 
-  pub play-settled : (q : Play) → m.settled < length m.goals → InPlay M m q → InPlay M m' q
-  play-settled q more = play_same M m m' q h.plan (λ p e. settled-goal p.goal)
+  pub play_settled : (q : Play) → m.settled < length m.goals → InPlay M m q → InPlay M m' q
+  play_settled q more = play_same M m m' q h.plan (λ p e. settled_goal p.goal)
       (λ p e. let low = (k.sheet p e).settled in
       met_same m.rows m'.rows p.goal (goal_at m p.goal) (k.ordered p.goal (omega arith)) (λ c t hc. h.other c t (λ eq. omega arith)))
 

@@ -76,14 +76,14 @@ aimed M m n (Some p) None e h = absurd h
 aimed M m n (Some p) (Some q) e h = ap₂ (λ l k. get_or l k TRUE) e h.goal
 
 module _ (M : Meaning) (w v : World) (h : Same M w v) (k : Kept M w) where
-  goal-same : (f : ℕ) → goal_at w.model f ≡ goal_at v.model f
-  goal-same f = ap (λ l. get_or l f TRUE) h.goals
+  goal_same : (f : ℕ) → goal_at w.model f ≡ goal_at v.model f
+  goal_same f = ap (λ l. get_or l f TRUE) h.goals
 
   aim_same : aim w.model ≡ aim v.model
   aim_same = aimed M w.model v.model w.model.plan v.model.plan h.goals h.plans
 
-  met-equal : (s n : ℕ) → met_by w.model.rows (aim w.model) s n ≡ met_by v.model.rows (aim v.model) s n
-  met-equal s n = go w.model.plan refl ∙ ap (λ φ. met_by v.model.rows φ s n) aim_same
+  met_equal : (s n : ℕ) → met_by w.model.rows (aim w.model) s n ≡ met_by v.model.rows (aim v.model) s n
+  met_equal s n = go w.model.plan refl ∙ ap (λ φ. met_by v.model.rows φ s n) aim_same
     where
       go : (o : Option Plan) → w.model.plan ≡ o → met_by w.model.rows (aim w.model) s n ≡ met_by v.model.rows (aim w.model) s n
       go None e = let z : aim w.model ≡ TRUE = ap (planned_goal w.model) e in ap (λ φ. met_by w.model.rows φ s n) z ∙ ap (λ φ. met_by v.model.rows φ s n) (sym z)
@@ -98,18 +98,18 @@ module _ (M : Meaning) (w v : World) (h : Same M w v) (k : Kept M w) where
   boardless : no_board M w.model ≡ no_board M v.model
   boardless = ap₂ (λ a b. eqb a 0 || not (eqb b M.states)) h.rows h.states
 
-  announcing-same : (o : Option Play) → announcing M w o ≡ announcing M v o
-  announcing-same None = refl
-  announcing-same (Some q) =
+  announcing_same : (o : Option Play) → announcing M w o ≡ announcing M v o
+  announcing_same None = refl
+  announcing_same (Some q) =
       let e1 = boardless in
       let e2 = sheetless M w.model.plan v.model.plan h.plans in
-      let e3 = met-equal q.state q.steps in
+      let e3 = met_equal q.state q.steps in
       let e4 = granted_same M w.model.plan v.model.plan q.state h.plans in
       λ i. (20, e1 i) ∷ (35, e2 i) ∷ (33, leb M.states q.state) ∷ (43, e3 i) ∷ (36, not (e4 i)) ∷ (42, leb 65535 q.steps) ∷ []
 
-  telling-same : (o : Option (Play × ℕ)) (b : ℕ) → telling M w o b ≡ telling M v o b
-  telling-same None b = refl
-  telling-same (Some x) b =
+  telling_same : (o : Option (Play × ℕ)) (b : ℕ) → telling M w o b ≡ telling M v o b
+  telling_same None b = refl
+  telling_same (Some x) b =
       let e1 = boardless in
       let e2 = sheetless M w.model.plan v.model.plan h.plans in
       let e3 = aim_same in
@@ -134,8 +134,8 @@ module _ (M : Meaning) (w v : World) (h : Same M w v) (k : Kept M w) where
   refusals_same (begin s) =
       let e1 = boardless in let e2 = sheetless M w.model.plan v.model.plan h.plans in let e3 = granted_same M w.model.plan v.model.plan s h.plans in let e4 = h.plays in
       λ i. (20, e1 i) ∷ (35, e2 i) ∷ (33, leb M.states s) ∷ (36, not (e3 i)) ∷ (40, leb 8 (length (e4 i))) ∷ []
-  refusals_same (announce i) = ap (λ qs. announcing M w (awaiting_move (slice_get qs i))) h.plays ∙ announcing-same (awaiting_move (slice_get v.plays i))
-  refusals_same (tell i b) = ap (λ qs. telling M w (awaiting_reply (slice_get qs i)) b) h.plays ∙ telling-same (awaiting_reply (slice_get v.plays i)) b
+  refusals_same (announce i) = ap (λ qs. announcing M w (awaiting_move (slice_get qs i))) h.plays ∙ announcing_same (awaiting_move (slice_get v.plays i))
+  refusals_same (tell i b) = ap (λ qs. telling M w (awaiting_reply (slice_get qs i)) b) h.plays ∙ telling_same (awaiting_reply (slice_get v.plays i)) b
   refusals_same (end i) = let e1 = boardless in let e2 = h.plays in λ j. (20, e1 j) ∷ (41, eqb (length (e2 j)) 0) ∷ []
   refusals_same (strike n) =
       let e1 = boardless in let e2 = h.goals in let e3 = h.plays in λ i. (20, e1 i) ∷ (30, ltb (length (e2 i)) n) ∷ (39, not (eqb (length (e3 i)) 0)) ∷ []
@@ -186,18 +186,18 @@ reply_over M m m' p s a b h same early rows = record {
 }
 
 module _ (M : Meaning) (law : Lawful M) (w v : World) (h : Same M w v) (k : Kept M w) (l : Kept M v) where
-  with-same : (qs us : List Play) → qs ≡ us → Same M (with_plays w qs) (with_plays v us)
-  with-same qs us e = record { goals = h.goals; settled = h.settled; states = h.states; rows = h.rows; marks = h.marks; plans = h.plans; plays = e }
+  with_same : (qs us : List Play) → qs ≡ us → Same M (with_plays w qs) (with_plays v us)
+  with_same qs us e = record { goals = h.goals; settled = h.settled; states = h.states; rows = h.rows; marks = h.marks; plans = h.plans; plays = e }
 
-  settle-same : (w' v' : World) → w.model.settled < length w.model.goals → Settles M w.model w'.model → Settles M v.model v'.model → w'.plays ≡ w.plays → v'.plays ≡ v.plays → Same M w' v'
-  settle-same w' v' more a b pa pb =
+  settle_same : (w' v' : World) → w.model.settled < length w.model.goals → Settles M w.model w'.model → Settles M v.model v'.model → w'.plays ≡ w.plays → v'.plays ≡ v.plays → Same M w' v'
+  settle_same w' v' more a b pa pb =
       let m = w.model in
       let n = v.model in
       let f = m.settled in
       let early = k.fit.ordered f more in
       let room : m.settled < m.rows.rows = omega (arith, k.fit.room) in
       let there : (t : ℕ) → t < M.states → t ∈ v'.model.rows.marked f ↔ Holds M n.rows.marked (goal_at m f) t =
-      λ t ht. subst (λ φ. t ∈ v'.model.rows.marked f ↔ Holds M n.rows.marked φ t) (sym (goal-same M w v h k f))
+      λ t ht. subst (λ φ. t ∈ v'.model.rows.marked f ↔ Holds M n.rows.marked φ t) (sym (goal_same M w v h k f))
       (subst (λ x. t ∈ v'.model.rows.marked x ↔ Holds M n.rows.marked (goal_at n x) t) (sym h.settled) (b.here (omega (arith, h.settled, h.rows)) t ht)) in
       let at : (t : ℕ) → w'.model.rows.marked f t ≡ v'.model.rows.marked f t =
       λ t. elim (cases_lt t M.states) [
@@ -220,39 +220,39 @@ module _ (M : Meaning) (law : Lawful M) (w v : World) (h : Same M w v) (k : Kept
         plays = pa ∙ h.plays ∙ sym pb;
       }
 
-  early-v : (f : ℕ) → f < w.model.settled → earlier f (goal_at v.model f) ≡ true
-  early-v f hf = l.fit.ordered f (omega (arith, h.settled, l.fit.within))
+  early_v : (f : ℕ) → f < w.model.settled → earlier f (goal_at v.model f) ≡ true
+  early_v f hf = l.fit.ordered f (omega (arith, h.settled, l.fit.within))
 
-  plan-same-at : (p q : Plan) (f : ℕ) → f < w.model.settled → p.goal ≡ f → q.goal ≡ f → IsPlan M w.model p → IsPlan M v.model q → SamePlan M p q
-  plan-same-at p q f hf ep eq i j =
+  plan_same_at : (p q : Plan) (f : ℕ) → f < w.model.settled → p.goal ≡ f → q.goal ≡ f → IsPlan M w.model p → IsPlan M v.model q → SamePlan M p q
+  plan_same_at p q f hf ep eq i j =
       let low : q.goal < w.model.settled = omega arith in
       plans_alike M law w.model p q i
-      (plan_same M v.model w.model q j low (goal-same M w v h k q.goal) (early-v q.goal low) (λ c hc. h.marks c (omega arith)))
+      (plan_same M v.model w.model q j low (goal_same M w v h k q.goal) (early_v q.goal low) (λ c hc. h.marks c (omega arith)))
       (ep ∙ sym eq)
 
-  announce-same : (i : ℕ) (o : Option Play) (r r' : Answer) (w' v' : World) → All Fails (announcing M w o) → Announces w i o r w' → Announces v i o r' v' → (r ≡ r') × Same M w' v'
-  announce-same i None r r' w' v' t (er, ew) (er', ev) = (er ∙ sym er', subst₂ (Same M) (sym ew) (sym ev) h)
-  announce-same i (Some q) r r' w' v' t (p, ep, er, ew) (p', ep', er', ev) =
+  announce_same : (i : ℕ) (o : Option Play) (r r' : Answer) (w' v' : World) → All Fails (announcing M w o) → Announces w i o r w' → Announces v i o r' v' → (r ≡ r') × Same M w' v'
+  announce_same i None r r' w' v' t (er, ew) (er', ev) = (er ∙ sym er', subst₂ (Same M) (sym ew) (sym ev) h)
+  announce_same i (Some q) r r' w' v' t (p, ep, er, ew) (p', ep', er', ev) =
       let sp = both_some M w.model.plan v.model.plan p p' ep ep' h.plans in
       let hs = leb-false _ _ t.1.1.0 in
       let hg = granted_by w.model p q.state ep t.1.1.1.1.0 in
       let em = sp.move q.state hs hg in (
         er ∙ ap₂ entry (sp.rank q.state hs) em ∙ sym er',
-        subst₂ (Same M) (sym ew) (sym ev) (with-same _ _ (ap₂ (λ qs a. set qs i (announced q a)) h.plays em)),
+        subst₂ (Same M) (sym ew) (sym ev) (with_same _ _ (ap₂ (λ qs a. set qs i (announced q a)) h.plays em)),
       )
 
-  tell-same : (i b : ℕ) (o : Option (Play × ℕ)) (r r' : Answer) (w' v' : World) → Tells M w i b o r w' → Tells M v i b o r' v' → (r ≡ r') × Same M w' v'
-  tell-same i b None r r' w' v' (er, ew) (er', ev) = (er ∙ sym er', subst₂ (Same M) (sym ew) (sym ev) h)
-  tell-same i b (Some x) r r' w' v' (er, ew) (er', ev) =
-      (er ∙ sym er', subst₂ (Same M) (sym ew) (sym ev) (with-same _ _ (ap (λ qs. set qs i (answered M x.0 x.1 b)) h.plays)))
+  tell_same : (i b : ℕ) (o : Option (Play × ℕ)) (r r' : Answer) (w' v' : World) → Tells M w i b o r w' → Tells M v i b o r' v' → (r ≡ r') × Same M w' v'
+  tell_same i b None r r' w' v' (er, ew) (er', ev) = (er ∙ sym er', subst₂ (Same M) (sym ew) (sym ev) h)
+  tell_same i b (Some x) r r' w' v' (er, ew) (er', ev) =
+      (er ∙ sym er', subst₂ (Same M) (sym ew) (sym ev) (with_same _ _ (ap (λ qs. set qs i (answered M x.0 x.1 b)) h.plays)))
 
   end_same : (i : ℕ) (o : Option Play) (r r' : Answer) (w' v' : World) → Ends w i o r w' → Ends v i o r' v' → (r ≡ r') × Same M w' v'
   end_same i None r r' w' v' (er, ew) (er', ev) = (er ∙ sym er', subst₂ (Same M) (sym ew) (sym ev) h)
   end_same i (Some q) r r' w' v' (er, ew) (er', ev) =
-      (er ∙ ap (outcome q.steps) (met-equal M w v h k q.state q.steps) ∙ sym er', subst₂ (Same M) (sym ew) (sym ev) (with-same _ _ (ap (λ qs. remove qs i) h.plays)))
+      (er ∙ ap (outcome q.steps) (met_equal M w v h k q.state q.steps) ∙ sym er', subst₂ (Same M) (sym ew) (sym ev) (with_same _ _ (ap (λ qs. remove qs i) h.plays)))
 
-  does-same : (c : Call) (r r' : Answer) (w' v' : World) → All Fails (refusals M w c) → Does M w c r w' → Does M v c r' v' → (r ≡ r') × Same M w' v'
-  does-same (enter x) r r' w' v' t (er, ew) (er', ev) = (
+  does_same : (c : Call) (r r' : Answer) (w' v' : World) → All Fails (refusals M w c) → Does M w c r w' → Does M v c r' v' → (r ≡ r') × Same M w' v'
+  does_same (enter x) r r' w' v' t (er, ew) (er', ev) = (
     er ∙ ap (λ gs. number (length gs)) h.goals ∙ sym er',
     subst₂ (Same M) (sym ew) (sym ev) (record {
       goals = ap (λ gs. gs ++ goal_of x ∷ []) h.goals;
@@ -264,12 +264,12 @@ module _ (M : Meaning) (law : Lawful M) (w v : World) (h : Same M w v) (k : Kept
       plays = h.plays;
     }),
   )
-  does-same settle r r' w' v' t (er, a, pa) (er', b, pb) =
+  does_same settle r r' w' v' t (er, a, pa) (er', b, pb) =
       let same = same_states M w.model t.0 in
-      (er ∙ sym er', settle-same w' v' (leb-false _ _ t.1.0) (settles M w.model w'.model same a) (settles M v.model v'.model (sym h.states ∙ same) b) pa pb)
-  does-same (query f s) r r' w' v' t (er, ew) (er', ev) =
+      (er ∙ sym er', settle_same w' v' (leb-false _ _ t.1.0) (settles M w.model w'.model same a) (settles M v.model v'.model (sym h.states ∙ same) b) pa pb)
+  does_same (query f s) r r' w' v' t (er, ew) (er', ev) =
       (er ∙ ap (λ (X : States). told (X s)) (h.marks f (leb-false _ _ t.1.1.0)) ∙ sym er', subst₂ (Same M) (sym ew) (sym ev) h)
-  does-same (plan f) r r' w' v' t (p, ep, i, er, ew) (q, eq, j, er', ev) = (
+  does_same (plan f) r r' w' v' t (p, ep, i, er, ew) (q, eq, j, er', ev) = (
     er ∙ sym er',
     subst₂ (Same M) (sym ew) (sym ev) (record {
       goals = h.goals;
@@ -278,14 +278,14 @@ module _ (M : Meaning) (law : Lawful M) (w v : World) (h : Same M w v) (k : Kept
       rows = h.rows;
       marks = h.marks;
       plays = h.plays;
-      plans = let hf : f < w.model.settled = leb-false _ _ t.1.1.0 in plan-same-at p q f hf ep eq i j;
+      plans = let hf : f < w.model.settled = leb-false _ _ t.1.1.0 in plan_same_at p q f hf ep eq i j;
     }),
   )
-  does-same (move s) r r' w' v' t (p, ep, er, ew) (p', ep', er', ev) =
+  does_same (move s) r r' w' v' t (p, ep, er, ew) (p', ep', er', ev) =
       let sp = both_some M w.model.plan v.model.plan p p' ep ep' h.plans in
       let hs = leb-false _ _ t.1.1.0 in
       (er ∙ ap₂ entry (sp.rank s hs) (sp.move s hs (granted_by w.model p s ep t.1.1.1.0)) ∙ sym er', subst₂ (Same M) (sym ew) (sym ev) h)
-  does-same (reply s a) r r' w' v' t (p, ep, (b, i, er), ew) (p', ep', (b', j, er'), ev) =
+  does_same (reply s a) r r' w' v' t (p, ep, (b, i, er), ew) (p', ep', (b', j, er'), ev) =
       let m = w.model in
       let sp = both_some M m.plan v.model.plan p p' ep ep' h.plans in
       let hs : s < M.states = leb-false _ _ t.1.1.0 in
@@ -293,15 +293,15 @@ module _ (M : Meaning) (law : Lawful M) (w v : World) (h : Same M w v) (k : Kept
       let low : p'.goal < m.settled = omega (arith, is.settled, sp.goal) in
       let out : s ∉ p.granted = sym (ap (λ o. granted_on o s) ep) ∙ t.1.1.1.0 in
       let ga = subst (λ φ. GroupChoice M (group_of φ) s a) (aim_is m p ep) ((sides_are_parts M (member (group_of (aim m))) s a).0 (not-false _ t.1.1.1.1.0)) in
-      let j' = reply_over M v.model m p' s a b' (j (l.fit.sheet p' ep')) (goal-same M w v h k p'.goal) (early-v p'.goal low) (λ c hc. h.marks c (omega arith)) in
+      let j' = reply_over M v.model m p' s a b' (j (l.fit.sheet p' ep')) (goal_same M w v h k p'.goal) (early_v p'.goal low) (λ c hc. h.marks c (omega arith)) in
       (er ∙ ap₂ entry (sp.rank s hs) (replies_alike M law m p p' s a b b' sp.goal sp.granted hs out ga (i is) j') ∙ sym er', subst₂ (Same M) (sym ew) (sym ev) h)
-  does-same (begin s) r r' w' v' t (er, ew) (er', ev) = (er ∙ sym er', subst₂ (Same M) (sym ew) (sym ev) (with-same _ _ (ap (λ qs. qs ++ begun s ∷ []) h.plays)))
-  does-same (announce i) r r' w' v' t d e =
-      announce-same i (awaiting_move (slice_get w.plays i)) r r' w' v' t d (subst (λ qs. Announces v i (awaiting_move (slice_get qs i)) r' v') (sym h.plays) e)
-  does-same (tell i b) r r' w' v' t d e =
-      tell-same i b (awaiting_reply (slice_get w.plays i)) r r' w' v' d (subst (λ qs. Tells M v i b (awaiting_reply (slice_get qs i)) r' v') (sym h.plays) e)
-  does-same (end i) r r' w' v' t d e = end_same i (slice_get w.plays i) r r' w' v' d (subst (λ qs. Ends v i (slice_get qs i) r' v') (sym h.plays) e)
-  does-same (strike n) r r' w' v' t (er, ew) (er', ev) = (
+  does_same (begin s) r r' w' v' t (er, ew) (er', ev) = (er ∙ sym er', subst₂ (Same M) (sym ew) (sym ev) (with_same _ _ (ap (λ qs. qs ++ begun s ∷ []) h.plays)))
+  does_same (announce i) r r' w' v' t d e =
+      announce_same i (awaiting_move (slice_get w.plays i)) r r' w' v' t d (subst (λ qs. Announces v i (awaiting_move (slice_get qs i)) r' v') (sym h.plays) e)
+  does_same (tell i b) r r' w' v' t d e =
+      tell_same i b (awaiting_reply (slice_get w.plays i)) r r' w' v' d (subst (λ qs. Tells M v i b (awaiting_reply (slice_get qs i)) r' v') (sym h.plays) e)
+  does_same (end i) r r' w' v' t d e = end_same i (slice_get w.plays i) r r' w' v' d (subst (λ qs. Ends v i (slice_get qs i) r' v') (sym h.plays) e)
+  does_same (strike n) r r' w' v' t (er, ew) (er', ev) = (
     er ∙ sym er',
     subst₂ (Same M) (sym ew) (sym ev) (record {
       goals = ap (take n) h.goals;
@@ -319,7 +319,7 @@ module _ (M : Meaning) (law : Lawful M) (w v : World) (h : Same M w v) (k : Kept
     where
       go : (o : Option ℕ) → first (refusals M w c) ≡ o → Ruled M w c o r w' → Ruled M v c o r' v' → (r ≡ r') × Same M w' v'
       go (Some n) e (er, ew) (er', ev) = (er ∙ sym er', subst₂ (Same M) (sym ew) (sym ev) h)
-      go None e d d' = does-same c r r' w' v' (passes (refusals M w c) e) d d'
+      go None e d d' = does_same c r r' w' v' (passes (refusals M w c) e) d d'
 
 runs_same : (M : Meaning) → Lawful M → (w v : World) (cs : List Call) (rs rs' : List Answer) (w' v' : World) → Run M w cs rs w' → Run M v cs rs' v' → Same M w v → Kept M w → Kept M v → rs ≡ rs'
 runs_same M law w v cs rs rs' w' v' (rest x) (rest y) h k l = refl

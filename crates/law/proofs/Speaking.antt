@@ -105,8 +105,8 @@ module _ (M : Meaning) (law : Lawful M) (w : World) (w' : World) (k : Kept M w) 
       )
 
   -- what the sheet has at a granted state
-  granted-entry : (p : Plan) → w.model.plan ≡ Some p → (s : ℕ) → s < M.states → not (granted_on w.model.plan s) ≡ false → EverySheet M w.model (λ S. (p.rank s ≡ S.rank s) × (p.move s ≡ S.move s))
-  granted-entry p e s hs t p' e' g φ aims S sheet =
+  granted_entry : (p : Plan) → w.model.plan ≡ Some p → (s : ℕ) → s < M.states → not (granted_on w.model.plan s) ≡ false → EverySheet M w.model (λ S. (p.rank s ≡ S.rank s) × (p.move s ≡ S.move s))
+  granted_entry p e s hs t p' e' g φ aims S sheet =
       let h = row_plan M w.model k.fit p e in
       let same : p ≡ p' = cc in
       let a = agrees M law w.model p h.sheet.0 h.group h.goal h.aims h.sheet.1 p' same g φ aims S sheet s hs in
@@ -117,7 +117,7 @@ module _ (M : Meaning) (law : Lawful M) (w : World) (w' : World) (k : Kept M w) 
       let ((p, e, er, ew), t) = did M w (move s) (entry n a) w' step refl in
       let en : n ≡ p.rank s = cc in
       let ea : a ≡ p.move s = cc in
-      let x = granted-entry p e s (leb-false _ _ t.1.1.0) t.1.1.1.0 p' e' g φ aims S sheet in
+      let x = granted_entry p e s (leb-false _ _ t.1.1.0) t.1.1.1.0 p' e' g φ aims S sheet in
       (en ∙ x.0, ea ∙ x.1)
 
   of_announce : (i n a : ℕ) → Step M w (announce i) (entry n a) w' → (q : Play) × (slice_get w.plays i ≡ Some q) × EverySheet M w.model (λ S. (n ≡ S.rank q.state) × (a ≡ S.move q.state))
@@ -132,7 +132,7 @@ module _ (M : Meaning) (law : Lawful M) (w : World) (w' : World) (k : Kept M w) 
             q,
             move_there (slice_get w.plays i) q e,
             λ p' e' g φ aims S sheet.
-                let x = granted-entry p ep q.state (leb-false _ _ t.1.1.0) t.1.1.1.1.0 p' e' g φ aims S sheet in
+                let x = granted_entry p ep q.state (leb-false _ _ t.1.1.0) t.1.1.1.1.0 p' e' g φ aims S sheet in
                 (en ∙ x.0, ea ∙ x.1),
           )
 

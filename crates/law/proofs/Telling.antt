@@ -32,18 +32,18 @@ module _ (M : Meaning) (w : World) (ls : List Log) (h : w.plays ≡ map (play_of
   idly : (c : Call) (r : Answer) → accepted r ≡ false → w' ≡ w → w'.plays ≡ map (play_of M) (noted ls c r)
   idly c r e same = ap (λ (x : World). x.plays) same ∙ h ∙ ap (map (play_of M)) (sym (unnoted ls c r e))
 
-  announce-told : (i : ℕ) (r : Answer) (o : Option Play) → awaiting_move (slice_get w.plays i) ≡ o → Announces w i o r w' → w'.plays ≡ map (play_of M) (noted ls (announce i) r)
-  announce-told i r None e (er, ew) = idly (announce i) r (ap accepted er) ew
-  announce-told i r (Some q) e (p, ep, er, ew) =
+  announce_told : (i : ℕ) (r : Answer) (o : Option Play) → awaiting_move (slice_get w.plays i) ≡ o → Announces w i o r w' → w'.plays ≡ map (play_of M) (noted ls (announce i) r)
+  announce_told i r None e (er, ew) = idly (announce i) r (ap accepted er) ew
+  announce_told i r (Some q) e (p, ep, er, ew) =
       let l = get_or ls i (fresh 0) in
       let a = p.move q.state in
       let is : q ≡ play_of M l = nth_log M ls i q (ap (λ qs. slice_get qs i) (sym h) ∙ move_there (slice_get w.plays i) q e) in
       ap (λ (x : World). x.plays) ew ∙ ap (λ qs. set qs i (announced q a)) h ∙ ap (λ x. set (map (play_of M) ls) i (announced x a)) is ∙
       sym (map-set (play_of M) ls i (said l a)) ∙ ap (λ z. map (play_of M) (noted ls (announce i) z)) (sym er)
 
-  tell-told : (i b : ℕ) (r : Answer) (o : Option (Play × ℕ)) → awaiting_reply (slice_get w.plays i) ≡ o → Tells M w i b o r w' → w'.plays ≡ map (play_of M) (noted ls (tell i b) r)
-  tell-told i b r None e (er, ew) = idly (tell i b) r (ap accepted er) ew
-  tell-told i b r (Some x) e (er, ew) =
+  tell_told : (i b : ℕ) (r : Answer) (o : Option (Play × ℕ)) → awaiting_reply (slice_get w.plays i) ≡ o → Tells M w i b o r w' → w'.plays ≡ map (play_of M) (noted ls (tell i b) r)
+  tell_told i b r None e (er, ew) = idly (tell i b) r (ap accepted er) ew
+  tell_told i b r (Some x) e (er, ew) =
       let l = get_or ls i (fresh 0) in
       let there = reply_there (slice_get w.plays i) x.0 x.1 e in
       let is : x.0 ≡ play_of M l = nth_log M ls i x.0 (ap (λ qs. slice_get qs i) (sym h) ∙ there.0) in
@@ -51,33 +51,33 @@ module _ (M : Meaning) (w : World) (ls : List Log) (h : w.plays ≡ map (play_of
       ap (λ (x : World). x.plays) ew ∙ ap (λ qs. set qs i (answered M x.0 x.1 b)) h ∙ ap₂ (λ y a. set (map (play_of M) ls) i (answered M y a b)) is am ∙
       sym (map-set (play_of M) ls i (replied l b)) ∙ ap (λ z. map (play_of M) (noted ls (tell i b) z)) (sym er)
 
-  end-told : (i : ℕ) (r : Answer) (o : Option Play) → slice_get w.plays i ≡ o → Ends w i o r w' → w'.plays ≡ map (play_of M) (noted ls (end i) r)
-  end-told i r None e (er, ew) = idly (end i) r (ap accepted er) ew
-  end-told i r (Some q) e (er, ew) =
+  end_told : (i : ℕ) (r : Answer) (o : Option Play) → slice_get w.plays i ≡ o → Ends w i o r w' → w'.plays ≡ map (play_of M) (noted ls (end i) r)
+  end_told i r None e (er, ew) = idly (end i) r (ap accepted er) ew
+  end_told i r (Some q) e (er, ew) =
       ap (λ (x : World). x.plays) ew ∙ ap (λ qs. remove qs i) h ∙ ap₂ ◌++◌ (take-map (play_of M) i ls) (drop-map (play_of M) (suc i) ls) ∙
       sym (map-append (play_of M) (take i ls) (drop (suc i) ls)) ∙ ap (λ z. map (play_of M) (noted ls (end i) z)) (sym er)
 
-  does-told : (c : Call) (r : Answer) → Does M w c r w' → w'.plays ≡ map (play_of M) (noted ls c r)
-  does-told (enter x) r (er, ew) = ap (λ (x : World). x.plays) ew ∙ h
-  does-told settle r (er, s, ew) = ew ∙ h
-  does-told (query f s) r (er, ew) = ap (λ (x : World). x.plays) ew ∙ h
-  does-told (plan f) r (p, ef, is, er, ew) = ap (λ (x : World). x.plays) ew ∙ h
-  does-told (move s) r (p, ep, er, ew) = ap (λ (x : World). x.plays) ew ∙ h
-  does-told (reply s a) r (p, ep, er, ew) = ap (λ (x : World). x.plays) ew ∙ h
-  does-told (begin s) r (er, ew) =
+  does_told : (c : Call) (r : Answer) → Does M w c r w' → w'.plays ≡ map (play_of M) (noted ls c r)
+  does_told (enter x) r (er, ew) = ap (λ (x : World). x.plays) ew ∙ h
+  does_told settle r (er, s, ew) = ew ∙ h
+  does_told (query f s) r (er, ew) = ap (λ (x : World). x.plays) ew ∙ h
+  does_told (plan f) r (p, ef, is, er, ew) = ap (λ (x : World). x.plays) ew ∙ h
+  does_told (move s) r (p, ep, er, ew) = ap (λ (x : World). x.plays) ew ∙ h
+  does_told (reply s a) r (p, ep, er, ew) = ap (λ (x : World). x.plays) ew ∙ h
+  does_told (begin s) r (er, ew) =
       ap (λ (x : World). x.plays) ew ∙ ap (λ qs. qs ++ begun s ∷ []) h ∙ sym (map_push (play_of M) ls (fresh s)) ∙ ap (λ z. map (play_of M) (noted ls (begin s) z)) (sym er)
-  does-told (announce i) r d = announce-told i r (awaiting_move (slice_get w.plays i)) refl d
-  does-told (tell i b) r d = tell-told i b r (awaiting_reply (slice_get w.plays i)) refl d
-  does-told (end i) r d = end-told i r (slice_get w.plays i) refl d
-  does-told (strike k) r (er, ew) = ap (λ (x : World). x.plays) ew ∙ h
+  does_told (announce i) r d = announce_told i r (awaiting_move (slice_get w.plays i)) refl d
+  does_told (tell i b) r d = tell_told i b r (awaiting_reply (slice_get w.plays i)) refl d
+  does_told (end i) r d = end_told i r (slice_get w.plays i) refl d
+  does_told (strike k) r (er, ew) = ap (λ (x : World). x.plays) ew ∙ h
 
-  step-told : (c : Call) (r : Answer) → Step M w c r w' → w'.plays ≡ map (play_of M) (noted ls c r)
-  step-told c r step = go (first (refusals M w c)) step.is
+  step_told : (c : Call) (r : Answer) → Step M w c r w' → w'.plays ≡ map (play_of M) (noted ls c r)
+  step_told c r step = go (first (refusals M w c)) step.is
     where
       go : (o : Option ℕ) → Ruled M w c o r w' → w'.plays ≡ map (play_of M) (noted ls c r)
       go (Some n) (er, ew) = idly c r (ap accepted er) ew
-      go None d = does-told c r d
+      go None d = does_told c r d
 
 pub run_told : (M : Meaning) (w : World) (cs : List Call) (rs : List Answer) (w' : World) → Run M w cs rs w' → (ls : List Log) → w.plays ≡ map (play_of M) ls → w'.plays ≡ map (play_of M) (logged ls cs rs)
 run_told M w cs rs w' (rest x) ls h = h
-run_told M w cs rs w' (goes x y z c r cs' rs' step run) ls h = run_told M y cs' rs' w' run (noted ls c r) (step-told M x ls h y c r step)
+run_told M w cs rs w' (goes x y z c r cs' rs' step run) ls h = run_told M y cs' rs' w' run (noted ls c r) (step_told M x ls h y c r step)

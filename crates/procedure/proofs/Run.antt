@@ -141,62 +141,62 @@ masks_run n a z l i j (m ∷ ms) =
     masks_run n a z l (suc i) (suc j) ms ∙ ap (λ v. fix (opened v l) n a z l v 0) (suc-add j (length ms) ∙ sym (add-suc j (length ms)))
 
 module _ (n a : ℕ) (z : List ℕ) (l m : ℕ) where
-  abbrev at-rule : ℕ → Fixed
-  at-rule k = fix (in_rule k) n a z l m k
+  abbrev at_rule : ℕ → Fixed
+  at_rule k = fix (in_rule k) n a z l m k
 
-  tests-run : (cs : List Condition) (k : ℕ) → run (map condition_word cs) (at-rule (length cs + k)) ≡ at-rule k
-  tests-run [] k = ap at-rule (zero-add k)
-  tests-run (Own v ∷ cs) k = ap (λ j. run (map condition_word (Own v ∷ cs)) (at-rule j)) (suc-add (length cs) k) ∙ tests-run cs k
-  tests-run (First v ∷ cs) k = ap (λ j. run (map condition_word (First v ∷ cs)) (at-rule j)) (suc-add (length cs) k) ∙ tests-run cs k
-  tests-run (Action i v ∷ cs) k = ap (λ j. run (map condition_word (Action i v ∷ cs)) (at-rule j)) (suc-add (length cs) k) ∙ tests-run cs k
+  tests_run : (cs : List Condition) (k : ℕ) → run (map condition_word cs) (at_rule (length cs + k)) ≡ at_rule k
+  tests_run [] k = ap at_rule (zero-add k)
+  tests_run (Own v ∷ cs) k = ap (λ j. run (map condition_word (Own v ∷ cs)) (at_rule j)) (suc-add (length cs) k) ∙ tests_run cs k
+  tests_run (First v ∷ cs) k = ap (λ j. run (map condition_word (First v ∷ cs)) (at_rule j)) (suc-add (length cs) k) ∙ tests_run cs k
+  tests_run (Action i v ∷ cs) k = ap (λ j. run (map condition_word (Action i v ∷ cs)) (at_rule j)) (suc-add (length cs) k) ∙ tests_run cs k
 
-  rules-run : (rs : List RuleText) → run (rules_words rs) (at-rule 0) ≡ at-rule 0
-  rules-run [] = refl
-  rules-run (r ∷ rs) =
+  rules_run : (rs : List RuleText) → run (rules_words rs) (at_rule 0) ≡ at_rule 0
+  rules_run [] = refl
+  rules_run (r ∷ rs) =
       let cs = r.conditions in
-      run_append (map condition_word cs) (rules_words rs) (at-rule (length cs))
-      ∙ ap (run (rules_words rs)) (ap (λ k. run (map condition_word cs) (at-rule k)) (sym (add-zero (length cs))) ∙ tests-run cs 0)
-      ∙ rules-run rs
+      run_append (map condition_word cs) (rules_words rs) (at_rule (length cs))
+      ∙ ap (run (rules_words rs)) (ap (λ k. run (map condition_word cs) (at_rule k)) (sym (add-zero (length cs))) ∙ tests_run cs 0)
+      ∙ rules_run rs
 
   abbrev at_label : ℕ → Fixed
   at_label k = fix (in_label k) n a z l m k
 
-  wants-run : (ts : List LocalState) (k : ℕ) → run (map local_word ts) (at_label (length ts + k)) ≡ at_label k
-  wants-run [] k = ap at_label (zero-add k)
-  wants-run (t ∷ ts) k = ap (λ j. run (map local_word (t ∷ ts)) (at_label j)) (suc-add (length ts) k) ∙ wants-run ts k
+  wants_run : (ts : List LocalState) (k : ℕ) → run (map local_word ts) (at_label (length ts + k)) ≡ at_label k
+  wants_run [] k = ap at_label (zero-add k)
+  wants_run (t ∷ ts) k = ap (λ j. run (map local_word (t ∷ ts)) (at_label j)) (suc-add (length ts) k) ∙ wants_run ts k
 
 module _ (n a : ℕ) (z : List ℕ) where
-  starts-run : (x : ℕ) (ss : List ℕ) (s : Fixed) → Numbers n a z s → run (starts_words (x ∷ ss)) s ≡ fix stage.Starts n a z 0 0 0
-  starts-run x [] s h = by_numbers n a z stage.Starts 0 0 0 s h
-  starts-run x (y ∷ ss) s h = starts-run y ss (after kind.Start (start_word x) s) (record { n_is = h.n_is; atoms_is = h.atoms_is; sizes_is = h.sizes_is })
+  starts_run : (x : ℕ) (ss : List ℕ) (s : Fixed) → Numbers n a z s → run (starts_words (x ∷ ss)) s ≡ fix stage.Starts n a z 0 0 0
+  starts_run x [] s h = by_numbers n a z stage.Starts 0 0 0 s h
+  starts_run x (y ∷ ss) s h = starts_run y ss (after kind.Start (start_word x) s) (record { n_is = h.n_is; atoms_is = h.atoms_is; sizes_is = h.sizes_is })
 
-  label-run : (l : LabelText) (s : Fixed) → Numbers n a z s →
+  label_run : (l : LabelText) (s : Fixed) → Numbers n a z s →
       run (label_word (length l.conditions) l.atom ∷ map local_word l.conditions) s ≡ fix stage.Labels n a z 0 0 0
-  label-run l s h =
+  label_run l s h =
       let ts = l.conditions in
       ap (run (map local_word ts)) (by_numbers n a z (in_label (length ts)) 0 0 (length ts) s h ∙ ap (at_label n a z 0 0) (sym (add-zero (length ts))))
-      ∙ wants-run n a z 0 0 ts 0
+      ∙ wants_run n a z 0 0 ts 0
 
-  labels-run : (l : LabelText) (ls : List LabelText) (s : Fixed) → Numbers n a z s → run (labels_words (l ∷ ls)) s ≡ fix stage.Labels n a z 0 0 0
-  labels-run l [] s h =
-      ap (λ v. run v s) (ap (λ v. label_word (length l.conditions) l.atom ∷ v) (append-nil (map local_word l.conditions))) ∙ label-run l s h
-  labels-run l (k ∷ ls) s h =
+  labels_run : (l : LabelText) (ls : List LabelText) (s : Fixed) → Numbers n a z s → run (labels_words (l ∷ ls)) s ≡ fix stage.Labels n a z 0 0 0
+  labels_run l [] s h =
+      ap (λ v. run v s) (ap (λ v. label_word (length l.conditions) l.atom ∷ v) (append-nil (map local_word l.conditions))) ∙ label_run l s h
+  labels_run l (k ∷ ls) s h =
       let x = label_word (length l.conditions) l.atom in
       run_append (map local_word l.conditions) (labels_words (k ∷ ls)) (after kind.Label x s)
-      ∙ ap (run (labels_words (k ∷ ls))) (label-run l s h)
-      ∙ labels-run k ls (fix stage.Labels n a z 0 0 0) (record { n_is = refl; atoms_is = refl; sizes_is = refl })
+      ∙ ap (run (labels_words (k ∷ ls))) (label_run l s h)
+      ∙ labels_run k ls (fix stage.Labels n a z 0 0 0) (record { n_is = refl; atoms_is = refl; sizes_is = refl })
 
-  goals-run : (x : Word) (xs : List Word) (s : Fixed) → Aims (x ∷ xs) → Numbers n a z s → run (x ∷ xs) s ≡ fix stage.Goals n a z 0 0 0
-  goals-run x [] s aims h =
+  goals_run : (x : Word) (xs : List Word) (s : Fixed) → Aims (x ∷ xs) → Numbers n a z s → run (x ∷ xs) s ≡ fix stage.Goals n a z 0 0 0
+  goals_run x [] s aims h =
       ap (λ v. after (kind_of v) x s) (eqb-true x.kind 8 (and_parts (eqb x.kind 8) true aims).0) ∙ by_numbers n a z stage.Goals 0 0 0 s h
-  goals-run x (y ∷ xs) s aims h =
+  goals_run x (y ∷ xs) s aims h =
       let p = and_parts (eqb x.kind 8) (all_of (λ v. eqb v.kind 8) (y ∷ xs)) aims in
       ap (λ v. run (y ∷ xs) (after (kind_of v) x s)) (eqb-true x.kind 8 p.0)
-      ∙ goals-run y xs (after kind.Goal x s) p.1 (record { n_is = h.n_is; atoms_is = h.atoms_is; sizes_is = h.sizes_is })
+      ∙ goals_run y xs (after kind.Goal x s) p.1 (record { n_is = h.n_is; atoms_is = h.atoms_is; sizes_is = h.sizes_is })
 
-  goals-numbers : (xs : List Word) (s : Fixed) → Aims xs → Numbers n a z s → Numbers n a z (run xs s)
-  goals-numbers [] s aims h = h
-  goals-numbers (x ∷ xs) s aims h = subst (Numbers n a z) (sym (goals-run x xs s aims h)) (record { n_is = refl; atoms_is = refl; sizes_is = refl })
+  goals_numbers : (xs : List Word) (s : Fixed) → Aims xs → Numbers n a z s → Numbers n a z (run xs s)
+  goals_numbers [] s aims h = h
+  goals_numbers (x ∷ xs) s aims h = subst (Numbers n a z) (sym (goals_run x xs s aims h)) (record { n_is = refl; atoms_is = refl; sizes_is = refl })
 
 abbrev pub start : Fixed
 start = fix stage.Begin 0 0 [] 0 0 0
@@ -205,23 +205,23 @@ module _ (p : Part) where
   abbrev sizes : List ℕ
   sizes = map (λ g. g.locals) p.agents
 
-  heads-numbers : Numbers p.n p.atoms sizes (run (heads p) start)
-  heads-numbers = agents_numbers p.n p.atoms [] 0 p.agents (fix stage.Agents p.n p.atoms [] 0 0 0) (record { n_is = refl; atoms_is = refl; sizes_is = refl })
+  heads_numbers : Numbers p.n p.atoms sizes (run (heads p) start)
+  heads_numbers = agents_numbers p.n p.atoms [] 0 p.agents (fix stage.Agents p.n p.atoms [] 0 0 0) (record { n_is = refl; atoms_is = refl; sizes_is = refl })
 
-  begun-numbers : Numbers p.n p.atoms sizes (run (begun p) start)
-  begun-numbers = subst (Numbers p.n p.atoms sizes) (sym (run_append (heads p) (starts_words p.starts) start)) (starts_numbers p.n p.atoms sizes p.starts (run (heads p) start) heads-numbers)
+  begun_numbers : Numbers p.n p.atoms sizes (run (begun p) start)
+  begun_numbers = subst (Numbers p.n p.atoms sizes) (sym (run_append (heads p) (starts_words p.starts) start)) (starts_numbers p.n p.atoms sizes p.starts (run (heads p) start) heads_numbers)
 
-  labelled-numbers : Numbers p.n p.atoms sizes (run (labelled p) start)
-  labelled-numbers = subst (Numbers p.n p.atoms sizes) (sym (run_append (begun p) (labels_words p.labels) start)) (labels_numbers p.n p.atoms sizes p.labels (run (begun p) start) begun-numbers)
+  labelled_numbers : Numbers p.n p.atoms sizes (run (labelled p) start)
+  labelled_numbers = subst (Numbers p.n p.atoms sizes) (sym (run_append (begun p) (labels_words p.labels) start)) (labels_numbers p.n p.atoms sizes p.labels (run (begun p) start) begun_numbers)
 
   abbrev own : List ℕ
   own = sizes ++ (p.locals ∷ [])
 
-  masked-run : run (told stage.Protocols p) start ≡ fix (opened (length p.masks) p.locals) p.n p.atoms own p.locals (length p.masks) 0
-  masked-run =
+  masked_run : run (told stage.Protocols p) start ≡ fix (opened (length p.masks) p.locals) p.n p.atoms own p.locals (length p.masks) 0
+  masked_run =
       let s = run (heads p) start in
       let x = agent_word (length p.agents) p.locals in
-      let h = heads-numbers in
+      let h = heads_numbers in
       run_append (heads p) (x ∷ protocol_words 0 p.masks) start
       ∙ ap (run (protocol_words 0 p.masks))
       (by_numbers p.n p.atoms own (opened 0 p.locals) p.locals 0 0 (after kind.Agent x s)
@@ -229,53 +229,53 @@ module _ (p : Part) where
       ∙ masks_run p.n p.atoms own p.locals 0 0 p.masks
       ∙ ap (λ v. fix (opened v p.locals) p.n p.atoms own p.locals v 0) (zero-add (length p.masks))
 
-  pub at-protocols : length p.masks < p.locals → run (told stage.Protocols p) start ≡ fix stage.Protocols p.n p.atoms own p.locals (length p.masks) 0
-  at-protocols few =
-      masked-run ∙ ap (λ v. fix (cond v stage.Rules stage.Protocols) p.n p.atoms own p.locals (length p.masks) 0) (ne_eqb (length p.masks) p.locals (λ e. omega arith))
+  pub at_protocols : length p.masks < p.locals → run (told stage.Protocols p) start ≡ fix stage.Protocols p.n p.atoms own p.locals (length p.masks) 0
+  at_protocols few =
+      masked_run ∙ ap (λ v. fix (cond v stage.Rules stage.Protocols) p.n p.atoms own p.locals (length p.masks) 0) (ne_eqb (length p.masks) p.locals (λ e. omega arith))
 
-  pub at-rules : length p.masks ≡ p.locals → run (told stage.Rules p) start ≡ fix stage.Rules p.n p.atoms own p.locals (length p.masks) 0
-  at-rules all =
+  pub at_rules : length p.masks ≡ p.locals → run (told stage.Rules p) start ≡ fix stage.Rules p.n p.atoms own p.locals (length p.masks) 0
+  at_rules all =
       run_append (told stage.Protocols p) (rules_words p.rules) start
       ∙ ap (run (rules_words p.rules))
-      (masked-run ∙ ap (λ v. fix (cond v stage.Rules stage.Protocols) p.n p.atoms own p.locals (length p.masks) 0) (eq-eqb (length p.masks) p.locals all))
-      ∙ rules-run p.n p.atoms own p.locals (length p.masks) p.rules
+      (masked_run ∙ ap (λ v. fix (cond v stage.Rules stage.Protocols) p.n p.atoms own p.locals (length p.masks) 0) (eq-eqb (length p.masks) p.locals all))
+      ∙ rules_run p.n p.atoms own p.locals (length p.masks) p.rules
 
-  pub at-rule-line : length p.masks ≡ p.locals → run (told stage.RuleLine p) start ≡ fix (in_rule p.left) p.n p.atoms own p.locals (length p.masks) p.left
-  at-rule-line all =
+  pub at_rule_line : length p.masks ≡ p.locals → run (told stage.RuleLine p) start ≡ fix (in_rule p.left) p.n p.atoms own p.locals (length p.masks) p.left
+  at_rule_line all =
       run_append (told stage.Rules p) (rule_word (length p.tests + p.left) p.line ∷ map condition_word p.tests) start
-      ∙ ap (run (rule_word (length p.tests + p.left) p.line ∷ map condition_word p.tests)) (at-rules all)
-      ∙ tests-run p.n p.atoms own p.locals (length p.masks) p.tests p.left
+      ∙ ap (run (rule_word (length p.tests + p.left) p.line ∷ map condition_word p.tests)) (at_rules all)
+      ∙ tests_run p.n p.atoms own p.locals (length p.masks) p.tests p.left
 
-  pub at-label-line : run (told stage.LabelLine p) start ≡ fix (in_label p.left) p.n p.atoms sizes 0 0 p.left
-  at-label-line =
+  pub at_label_line : run (told stage.LabelLine p) start ≡ fix (in_label p.left) p.n p.atoms sizes 0 0 p.left
+  at_label_line =
       let k = length p.wants + p.left in
       run_append (labelled p) (label_word k p.line ∷ map local_word p.wants) start
-      ∙ ap (run (map local_word p.wants)) (by_numbers p.n p.atoms sizes (in_label k) 0 0 k (run (labelled p) start) labelled-numbers)
-      ∙ wants-run p.n p.atoms sizes 0 0 p.wants p.left
+      ∙ ap (run (map local_word p.wants)) (by_numbers p.n p.atoms sizes (in_label k) 0 0 k (run (labelled p) start) labelled_numbers)
+      ∙ wants_run p.n p.atoms sizes 0 0 p.wants p.left
 
   pub at_done : Aims p.goals → run (told stage.Done p) start ≡ fix stage.Done p.n p.atoms sizes 0 0 0
   at_done aims =
-      let h = goals-numbers p.n p.atoms sizes p.goals (run (labelled p) start) aims labelled-numbers in
+      let h = goals_numbers p.n p.atoms sizes p.goals (run (labelled p) start) aims labelled_numbers in
       run_append (aimed p) (w 9 0 0 (length (aimed p) / 256) (length (aimed p) % 256) ∷ []) start
       ∙ by_numbers p.n p.atoms sizes stage.Done 0 0 0 (run (aimed p) start) (subst (Numbers p.n p.atoms sizes) (sym (run_append (labelled p) p.goals start)) h)
 
-  starts-some : (ss : List ℕ) → 0 < length ss → run (starts_words ss) (run (heads p) start) ≡ fix stage.Starts p.n p.atoms sizes 0 0 0
-  starts-some [] some = absurd (omega arith)
-  starts-some (x ∷ ss) some = starts-run p.n p.atoms sizes x ss (run (heads p) start) heads-numbers
+  starts_some : (ss : List ℕ) → 0 < length ss → run (starts_words ss) (run (heads p) start) ≡ fix stage.Starts p.n p.atoms sizes 0 0 0
+  starts_some [] some = absurd (omega arith)
+  starts_some (x ∷ ss) some = starts_run p.n p.atoms sizes x ss (run (heads p) start) heads_numbers
 
-  labels-some : (ls : List LabelText) → 0 < length ls → run (labels_words ls) (run (begun p) start) ≡ fix stage.Labels p.n p.atoms sizes 0 0 0
-  labels-some [] some = absurd (omega arith)
-  labels-some (x ∷ ls) some = labels-run p.n p.atoms sizes x ls (run (begun p) start) begun-numbers
+  labels_some : (ls : List LabelText) → 0 < length ls → run (labels_words ls) (run (begun p) start) ≡ fix stage.Labels p.n p.atoms sizes 0 0 0
+  labels_some [] some = absurd (omega arith)
+  labels_some (x ∷ ls) some = labels_run p.n p.atoms sizes x ls (run (begun p) start) begun_numbers
 
-  goals-some : (xs : List Word) → 0 < length xs → Aims xs → run xs (run (labelled p) start) ≡ fix stage.Goals p.n p.atoms sizes 0 0 0
-  goals-some [] some aims = absurd (omega arith)
-  goals-some (x ∷ xs) some aims = goals-run p.n p.atoms sizes x xs (run (labelled p) start) aims labelled-numbers
+  goals_some : (xs : List Word) → 0 < length xs → Aims xs → run xs (run (labelled p) start) ≡ fix stage.Goals p.n p.atoms sizes 0 0 0
+  goals_some [] some aims = absurd (omega arith)
+  goals_some (x ∷ xs) some aims = goals_run p.n p.atoms sizes x xs (run (labelled p) start) aims labelled_numbers
 
-  pub at-starts : 0 < length p.starts → run (told stage.Starts p) start ≡ fix stage.Starts p.n p.atoms sizes 0 0 0
-  at-starts some = run_append (heads p) (starts_words p.starts) start ∙ starts-some p.starts some
+  pub at_starts : 0 < length p.starts → run (told stage.Starts p) start ≡ fix stage.Starts p.n p.atoms sizes 0 0 0
+  at_starts some = run_append (heads p) (starts_words p.starts) start ∙ starts_some p.starts some
 
-  pub at-labels : 0 < length p.labels → run (told stage.Labels p) start ≡ fix stage.Labels p.n p.atoms sizes 0 0 0
-  at-labels some = run_append (begun p) (labels_words p.labels) start ∙ labels-some p.labels some
+  pub at_labels : 0 < length p.labels → run (told stage.Labels p) start ≡ fix stage.Labels p.n p.atoms sizes 0 0 0
+  at_labels some = run_append (begun p) (labels_words p.labels) start ∙ labels_some p.labels some
 
-  pub at-goals : 0 < length p.goals → Aims p.goals → run (told stage.Goals p) start ≡ fix stage.Goals p.n p.atoms sizes 0 0 0
-  at-goals some aims = run_append (labelled p) p.goals start ∙ goals-some p.goals some aims
+  pub at_goals : 0 < length p.goals → Aims p.goals → run (told stage.Goals p) start ≡ fix stage.Goals p.n p.atoms sizes 0 0 0
+  at_goals some aims = run_append (labelled p) p.goals start ∙ goals_some p.goals some aims

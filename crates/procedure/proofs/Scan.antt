@@ -64,31 +64,31 @@ locals_back [] = refl
 locals_back (t ∷ ts) = ap (λ v. t ∷ v) (locals_back ts)
 
 module _ (ms : List ℕ) (rs : List RuleText) (gs : List AgentText) (ss : List ℕ) (ls : List LabelText) (fs : List Word) (a : ℕ) where
-  tests-scan : (cs : List Condition) → onto (map condition_word cs) (make [] ms rs gs ss ls fs a) ≡ make (map condition_word cs) ms rs gs ss ls fs a
-  tests-scan [] = refl
-  tests-scan (Own v ∷ cs) = ap (put kind.Condition (condition_word (Own v))) (tests-scan cs)
-  tests-scan (First v ∷ cs) = ap (put kind.Condition (condition_word (First v))) (tests-scan cs)
-  tests-scan (Action i v ∷ cs) = ap (put kind.Condition (condition_word (Action i v))) (tests-scan cs)
+  tests_scan : (cs : List Condition) → onto (map condition_word cs) (make [] ms rs gs ss ls fs a) ≡ make (map condition_word cs) ms rs gs ss ls fs a
+  tests_scan [] = refl
+  tests_scan (Own v ∷ cs) = ap (put kind.Condition (condition_word (Own v))) (tests_scan cs)
+  tests_scan (First v ∷ cs) = ap (put kind.Condition (condition_word (First v))) (tests_scan cs)
+  tests_scan (Action i v ∷ cs) = ap (put kind.Condition (condition_word (Action i v))) (tests_scan cs)
 
-  wants-scan : (ts : List LocalState) → onto (map local_word ts) (make [] ms rs gs ss ls fs a) ≡ make (map local_word ts) ms rs gs ss ls fs a
-  wants-scan [] = refl
-  wants-scan (t ∷ ts) = ap (put kind.Condition (local_word t)) (wants-scan ts)
+  wants_scan : (ts : List LocalState) → onto (map local_word ts) (make [] ms rs gs ss ls fs a) ≡ make (map local_word ts) ms rs gs ss ls fs a
+  wants_scan [] = refl
+  wants_scan (t ∷ ts) = ap (put kind.Condition (local_word t)) (wants_scan ts)
 
-  goals-scan : (xs : List Word) → Aims xs → onto xs (make [] ms rs gs ss ls [] a) ≡ make [] ms rs gs ss ls xs a
-  goals-scan [] aims = refl
-  goals-scan (x ∷ xs) aims =
+  goals_scan : (xs : List Word) → Aims xs → onto xs (make [] ms rs gs ss ls [] a) ≡ make [] ms rs gs ss ls xs a
+  goals_scan [] aims = refl
+  goals_scan (x ∷ xs) aims =
       let p = and_parts (eqb x.kind 8) (all_of (λ v. eqb v.kind 8) xs) aims in
-      ap (λ v. put (kind_of v) x (onto xs (make [] ms rs gs ss ls [] a))) (eqb-true x.kind 8 p.0) ∙ ap (put kind.Goal x) (goals-scan xs p.1)
+      ap (λ v. put (kind_of v) x (onto xs (make [] ms rs gs ss ls [] a))) (eqb-true x.kind 8 p.0) ∙ ap (put kind.Goal x) (goals_scan xs p.1)
 
-  starts-scan : (xs : List ℕ) → onto (starts_words xs) (make [] ms rs gs [] ls fs a) ≡ make [] ms rs gs xs ls fs a
-  starts-scan [] = refl
-  starts-scan (x ∷ xs) =
+  starts_scan : (xs : List ℕ) → onto (starts_words xs) (make [] ms rs gs [] ls fs a) ≡ make [] ms rs gs xs ls fs a
+  starts_scan [] = refl
+  starts_scan (x ∷ xs) =
       let is : x / 256 * 256 + x % 256 ≡ x = omega arith in
-      ap (put kind.Start (start_word x)) (starts-scan xs) ∙ ap (λ v. make [] ms rs gs (v ∷ xs) ls fs a) is
+      ap (put kind.Start (start_word x)) (starts_scan xs) ∙ ap (λ v. make [] ms rs gs (v ∷ xs) ls fs a) is
 
-  masks-scan : (i : ℕ) (xs : List ℕ) → onto (protocol_words i xs) (make [] [] rs gs ss ls fs a) ≡ make [] xs rs gs ss ls fs a
-  masks-scan i [] = refl
-  masks-scan i (x ∷ xs) = ap (λ s. put kind.Protocol (record { kind = 3; a = 0; b = 0; c = i; d = x }) s) (masks-scan (suc i) xs)
+  masks_scan : (i : ℕ) (xs : List ℕ) → onto (protocol_words i xs) (make [] [] rs gs ss ls fs a) ≡ make [] xs rs gs ss ls fs a
+  masks_scan i [] = refl
+  masks_scan i (x ∷ xs) = ap (λ s. put kind.Protocol (record { kind = 3; a = 0; b = 0; c = i; d = x }) s) (masks_scan (suc i) xs)
 
 labels_scan : (ms : List ℕ) (rs : List RuleText) (gs : List AgentText) (ss : List ℕ) (fs : List Word) (a : ℕ) (xs : List LabelText) →
     onto (labels_words xs) (make [] ms rs gs ss [] fs a) ≡ make [] ms rs gs ss xs fs a
@@ -97,7 +97,7 @@ labels_scan ms rs gs ss fs a (x ∷ xs) =
     let cs = map local_word x.conditions in
     let word : Word = record { kind = 7; a = length x.conditions; b = 0; c = 0; d = x.atom } in
     ap (put kind.Label word)
-    (onto_append cs (labels_words xs) (make [] ms rs gs ss [] fs a) ∙ ap (onto cs) (labels_scan ms rs gs ss fs a xs) ∙ wants-scan ms rs gs ss xs fs a x.conditions)
+    (onto_append cs (labels_words xs) (make [] ms rs gs ss [] fs a) ∙ ap (onto cs) (labels_scan ms rs gs ss fs a xs) ∙ wants_scan ms rs gs ss xs fs a x.conditions)
     ∙ ap (λ v. make [] ms rs gs ss (record { atom = x.atom; conditions = v } ∷ xs) fs a) (locals_back x.conditions)
 
 rules_scan : (ms : List ℕ) (gs : List AgentText) (ss : List ℕ) (ls : List LabelText) (fs : List Word) (a : ℕ) (xs : List RuleText) →
@@ -107,7 +107,7 @@ rules_scan ms gs ss ls fs a (x ∷ xs) =
     let cs = map condition_word x.conditions in
     let word : Word = record { kind = 4; a = length x.conditions; b = 0; c = 0; d = x.next } in
     ap (put kind.Rule word)
-    (onto_append cs (rules_words xs) (make [] ms [] gs ss ls fs a) ∙ ap (onto cs) (rules_scan ms gs ss ls fs a xs) ∙ tests-scan ms xs gs ss ls fs a x.conditions)
+    (onto_append cs (rules_words xs) (make [] ms [] gs ss ls fs a) ∙ ap (onto cs) (rules_scan ms gs ss ls fs a xs) ∙ tests_scan ms xs gs ss ls fs a x.conditions)
     ∙ ap (λ v. make [] ms (record { next = x.next; conditions = v } ∷ xs) gs ss ls fs a) (conditions_back x.conditions)
 
 agents_scan : (i : ℕ) (ss : List ℕ) (ls : List LabelText) (fs : List Word) (a : ℕ) (xs : List AgentText) →
@@ -122,7 +122,7 @@ agents_scan i ss ls fs a (x ∷ xs) =
     ap (put kind.Agent word)
     (onto_append ms (rs ++ gs) none
     ∙ ap (onto ms) (onto_append rs gs none ∙ ap (onto rs) (agents_scan (suc i) ss ls fs a xs) ∙ rules_scan [] xs ss ls fs a x.rules)
-    ∙ masks-scan [] x.rules xs ss ls fs a 0 x.masks)
+    ∙ masks_scan [] x.rules xs ss ls fs a 0 x.masks)
 
 abbrev blank : Scan
 blank = make [] [] [] [] [] [] [] 0
@@ -142,8 +142,8 @@ scan_written d aims =
     ∙ ap (onto gs)
     (onto_append ss (ls ++ fs) blank
     ∙ ap (onto ss)
-    (onto_append ls fs blank ∙ ap (onto ls) (goals-scan [] [] [] [] [] [] 0 fs aims) ∙ labels_scan [] [] [] [] fs 0 d.labels)
-    ∙ starts-scan [] [] [] [] d.labels fs 0 d.starts)
+    (onto_append ls fs blank ∙ ap (onto ls) (goals_scan [] [] [] [] [] [] 0 fs aims) ∙ labels_scan [] [] [] [] fs 0 d.labels)
+    ∙ starts_scan [] [] [] [] d.labels fs 0 d.starts)
     ∙ agents_scan 0 d.starts d.labels fs 0 d.agents)
 
 abbrev description : Scan → Description

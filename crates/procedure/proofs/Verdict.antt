@@ -13,7 +13,7 @@ use Rattle.procedure.specs.declared.kind.Kind.{Kind}
 use Rattle.procedure.specs.declared.kind.Kind.TheVariants as kind
 use Rattle.procedure.specs.declared.stage.Stage.{Stage}
 use Rattle.procedure.specs.declared.stage.Stage.TheVariants as stage
-use Rattle.procedure.proofs.Run.{Fixed, fix, run, run_append, start, in_rule, in_label, at-protocols, at-rules, at-rule-line, at-starts, at-labels, at-label-line, at-goals, at_done}
+use Rattle.procedure.proofs.Run.{Fixed, fix, run, run_append, start, in_rule, in_label, at_protocols, at_rules, at_rule_line, at_starts, at_labels, at_label_line, at_goals, at_done}
 
 abbrev make : Stage → ℕ → ℕ → List ℕ → ℕ → ℕ → ℕ → ℕ → Known
 make s n a z st l m c = record { stage = s; n = n; atoms = a; sizes = z; states = st; locals = l; masks = m; words = c }
@@ -105,11 +105,11 @@ label_some (suc k) some = refl
 rule_line_run : (p : Part) → Shown stage.RuleLine p →
     run (told stage.RuleLine p) start ≡ fix stage.RuleLine p.n p.atoms (sizes_at stage.RuleLine p) p.locals (length p.masks) p.left
 rule_line_run p h =
-    at-rule-line p h.0 ∙ ap (λ v. fix v p.n p.atoms (sizes_at stage.RuleLine p) p.locals (length p.masks) p.left) (rule_some p.left h.1)
+    at_rule_line p h.0 ∙ ap (λ v. fix v p.n p.atoms (sizes_at stage.RuleLine p) p.locals (length p.masks) p.left) (rule_some p.left h.1)
 
 label_line_run : (p : Part) → Shown stage.LabelLine p →
     run (told stage.LabelLine p) start ≡ fix stage.LabelLine p.n p.atoms (sizes_at stage.LabelLine p) 0 0 p.left
-label_line_run p h = at-label-line p ∙ ap (λ v. fix v p.n p.atoms (sizes_at stage.LabelLine p) 0 0 p.left) (label_some p.left h)
+label_line_run p h = at_label_line p ∙ ap (λ v. fix v p.n p.atoms (sizes_at stage.LabelLine p) 0 0 p.left) (label_some p.left h)
 
 -- The stage that the words of a part lead to is its own.
 abbrev stage_of : Fixed → Stage
@@ -118,13 +118,13 @@ stage_of s = s.stage
 stage_at : (s : Stage) (p : Part) → Shown s p → stage_of (run (told s p) start) ≡ s
 stage_at stage.Begin p h = refl
 stage_at stage.Agents p h = refl
-stage_at stage.Protocols p h = ap stage_of (at-protocols p h)
-stage_at stage.Rules p h = ap stage_of (at-rules p h)
+stage_at stage.Protocols p h = ap stage_of (at_protocols p h)
+stage_at stage.Rules p h = ap stage_of (at_rules p h)
 stage_at stage.RuleLine p h = ap stage_of (rule_line_run p h)
-stage_at stage.Starts p h = ap stage_of (at-starts p h)
-stage_at stage.Labels p h = ap stage_of (at-labels p h)
+stage_at stage.Starts p h = ap stage_of (at_starts p h)
+stage_at stage.Labels p h = ap stage_of (at_labels p h)
 stage_at stage.LabelLine p h = ap stage_of (label_line_run p h)
-stage_at stage.Goals p h = ap stage_of (at-goals p h.0 h.1)
+stage_at stage.Goals p h = ap stage_of (at_goals p h.0 h.1)
 stage_at stage.Done p h = ap stage_of (at_done p h)
 
 -- Where no agent is under way.
@@ -136,13 +136,13 @@ free_judge s free p x k is =
 judge_at : (s : Stage) (p : Part) (x : Word) → Shown s p → wrong (known_at s p) x ≡ judge (told s p) x
 judge_at stage.Begin p x h = begin_same (kind_of x.kind) p.n p.atoms p.locals (length p.masks) x
 judge_at stage.Agents p x h = free_judge stage.Agents tt p x 0 refl
-judge_at stage.Protocols p x h = ap (λ v. wrong (seen v (length (told stage.Protocols p))) x) (sym (at-protocols p h))
-judge_at stage.Rules p x h = ap (λ v. wrong (seen v (length (told stage.Rules p))) x) (sym (at-rules p h))
+judge_at stage.Protocols p x h = ap (λ v. wrong (seen v (length (told stage.Protocols p))) x) (sym (at_protocols p h))
+judge_at stage.Rules p x h = ap (λ v. wrong (seen v (length (told stage.Rules p))) x) (sym (at_rules p h))
 judge_at stage.RuleLine p x h = ap (λ v. wrong (seen v (length (told stage.RuleLine p))) x) (sym (rule_line_run p h))
-judge_at stage.Starts p x h = free_judge stage.Starts tt p x 0 (at-starts p h)
-judge_at stage.Labels p x h = free_judge stage.Labels tt p x 0 (at-labels p h)
+judge_at stage.Starts p x h = free_judge stage.Starts tt p x 0 (at_starts p h)
+judge_at stage.Labels p x h = free_judge stage.Labels tt p x 0 (at_labels p h)
 judge_at stage.LabelLine p x h = free_judge stage.LabelLine tt p x p.left (label_line_run p h)
-judge_at stage.Goals p x h = free_judge stage.Goals tt p x 0 (at-goals p h.0 h.1)
+judge_at stage.Goals p x h = free_judge stage.Goals tt p x 0 (at_goals p h.0 h.1)
 judge_at stage.Done p x h = free_judge stage.Done tt p x 0 (at_done p h)
 
 same_judgement : (p q : Part) (x : Word) → Shown p.stage p → Shown q.stage q → said p ≡ said q → wrong (known p) x ≡ wrong (known q) x

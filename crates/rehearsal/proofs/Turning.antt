@@ -28,23 +28,23 @@ set_nth (x ∷ qs) (suc i) q e = ap (λ l. x ∷ l) (set_nth qs i q e)
 
 module _ (M : Meaning) (m : Model) (qs : List Play) (i : ℕ) where
   -- nothing has changed
-  same-world : (q q' : Play) → slice_get qs i ≡ Some q → q ≡ q' → world m qs ≡ world m (set qs i q')
-  same-world q q' at e = ap (world m) (sym (set_nth qs i q at) ∙ ap (set qs i) e)
+  same_world : (q q' : Play) → slice_get qs i ≡ Some q → q ≡ q' → world m qs ≡ world m (set qs i q')
+  same_world q q' at e = ap (world m) (sym (set_nth qs i q at) ∙ ap (set qs i) e)
 
   stays : (c : Call) (r : Answer) (q q' : Play) → slice_get qs i ≡ Some q → q ≡ q' → Step M (world m qs) c r (world m qs) → Step M (world m qs) c r (world m (set qs i q'))
-  stays c r q q' at e step = subst (Step M (world m qs) c r) (same-world q q' at e) step
+  stays c r q q' at e step = subst (Step M (world m qs) c r) (same_world q q' at e) step
 
-  announce-idle : (start : ℕ) (told : List (ℕ × ℕ)) (t : AwaitingReply) → slice_get qs i ≡ Some (replying start told t) → Step M (world m qs) (Announce i) Idle (world m qs)
-  announce-idle start told t at = step_does M (world m qs) (Announce i) Idle (world m qs) (ap (λ o. first (announcing M (world m qs) (awaiting_move o))) at)
+  announce_idle : (start : ℕ) (told : List (ℕ × ℕ)) (t : AwaitingReply) → slice_get qs i ≡ Some (replying start told t) → Step M (world m qs) (Announce i) Idle (world m qs)
+  announce_idle start told t at = step_does M (world m qs) (Announce i) Idle (world m qs) (ap (λ o. first (announcing M (world m qs) (awaiting_move o))) at)
       (subst (λ o. Announces' (world m qs) i (awaiting_move o) Idle (world m qs)) (sym at) (refl, refl))
 
-  tell-idle : (b start : ℕ) (told : List (ℕ × ℕ)) (t : AwaitingMove) → slice_get qs i ≡ Some (moving start told t) → Step M (world m qs) (Tell i b) Idle (world m qs)
-  tell-idle b start told t at = step_does M (world m qs) (Tell i b) Idle (world m qs) (ap (λ o. first (telling M (world m qs) (awaiting_reply o) b)) at)
+  tell_idle : (b start : ℕ) (told : List (ℕ × ℕ)) (t : AwaitingMove) → slice_get qs i ≡ Some (moving start told t) → Step M (world m qs) (Tell i b) Idle (world m qs)
+  tell_idle b start told t at = step_does M (world m qs) (Tell i b) Idle (world m qs) (ap (λ o. first (telling M (world m qs) (awaiting_reply o) b)) at)
       (subst (λ o. Tells' M (world m qs) i b (awaiting_reply o) Idle (world m qs)) (sym at) (refl, refl))
 
   -- there is no such play
-  pub announce-none : slice_get qs i ≡ None → Step M (world m qs) (Announce i) Idle (world m qs)
-  announce-none at = step_does M (world m qs) (Announce i) Idle (world m qs) (ap (λ o. first (announcing M (world m qs) (awaiting_move o))) at)
+  pub announce_none : slice_get qs i ≡ None → Step M (world m qs) (Announce i) Idle (world m qs)
+  announce_none at = step_does M (world m qs) (Announce i) Idle (world m qs) (ap (λ o. first (announcing M (world m qs) (awaiting_move o))) at)
       (subst (λ o. Announces' (world m qs) i (awaiting_move o) Idle (world m qs)) (sym at) (refl, refl))
 
   pub tell_none : (b : ℕ) → slice_get qs i ≡ None → Step M (world m qs) (Tell i b) Idle (world m qs)
@@ -55,30 +55,30 @@ module _ (M : Meaning) (m : Model) (p : Token) where
   seen : (t : Token) → p ≡ t → (qs : List Play) (i start : ℕ) (told : List (ℕ × ℕ)) → slice_get qs i ≡ Some (playing start told p) → slice_get qs i ≡ Some (playing start told t)
   seen t is qs i start told at = at ∙ ap (λ x. Some (playing start told x)) is
 
-  pub announce-waits : (t : AwaitingReply) → p ≡ Reply t → Turns M m p (λ i. Announce i) Idle (Reply t)
-  announce-waits t is qs i start told at =
+  pub announce_waits : (t : AwaitingReply) → p ≡ Reply t → Turns M m p (λ i. Announce i) Idle (Reply t)
+  announce_waits t is qs i start told at =
       let at' = seen (Reply t) is qs i start told at in
-      (told, stays M m qs i (Announce i) Idle (replying start told t) (replying start told t) at' refl (announce-idle M m qs i start told t at'))
+      (told, stays M m qs i (Announce i) Idle (replying start told t) (replying start told t) at' refl (announce_idle M m qs i start told t at'))
 
-  pub announce-made : (t : AwaitingMove) (x : Announced) → p ≡ Move t → Announces M m t (Ok x) → Turns M m p (λ i. Announce i) (Entry x.rank x.choice) (Reply x.play)
-  announce-made t x is h qs i start told at = (told, h qs i start told (seen (Move t) is qs i start told at))
+  pub announce_made : (t : AwaitingMove) (x : Announced) → p ≡ Move t → Announces M m t (Ok x) → Turns M m p (λ i. Announce i) (Entry x.rank x.choice) (Reply x.play)
+  announce_made t x is h qs i start told at = (told, h qs i start told (seen (Move t) is qs i start told at))
 
-  pub announce-refused : (t : AwaitingMove) (x : Unannounced) → p ≡ Move t → Announces M m t (Err x) → Turns M m p (λ i. Announce i) (Refused x.fault) (Move x.play)
-  announce-refused t x is h qs i start told at =
+  pub announce_refused : (t : AwaitingMove) (x : Unannounced) → p ≡ Move t → Announces M m t (Err x) → Turns M m p (λ i. Announce i) (Refused x.fault) (Move x.play)
+  announce_refused t x is h qs i start told at =
       let at' = seen (Move t) is qs i start told at in
       let (step, back) = h qs i start told at' in
       (told, stays M m qs i (Announce i) (Refused x.fault) (moving start told t) (moving start told x.play) at' (ap (moving start told) (sym back)) step)
 
-  pub tell-waits : (b : ℕ) (t : AwaitingMove) → p ≡ Move t → Turns M m p (λ i. Tell i b) Idle (Move t)
-  tell-waits b t is qs i start told at =
+  pub tell_waits : (b : ℕ) (t : AwaitingMove) → p ≡ Move t → Turns M m p (λ i. Tell i b) Idle (Move t)
+  tell_waits b t is qs i start told at =
       let at' = seen (Move t) is qs i start told at in
-      (told, stays M m qs i (Tell i b) Idle (moving start told t) (moving start told t) at' refl (tell-idle M m qs i b start told t at'))
+      (told, stays M m qs i (Tell i b) Idle (moving start told t) (moving start told t) at' refl (tell_idle M m qs i b start told t at'))
 
-  pub tell-made : (b : ℕ) (t : AwaitingReply) (x : AwaitingMove) → p ≡ Reply t → Tells M m t b (Ok x) → Turns M m p (λ i. Tell i b) Done (Move x)
-  tell-made b t x is h qs i start told at = ((t.choice, b) ∷ told, h qs i start told (seen (Reply t) is qs i start told at))
+  pub tell_made : (b : ℕ) (t : AwaitingReply) (x : AwaitingMove) → p ≡ Reply t → Tells M m t b (Ok x) → Turns M m p (λ i. Tell i b) Done (Move x)
+  tell_made b t x is h qs i start told at = ((t.choice, b) ∷ told, h qs i start told (seen (Reply t) is qs i start told at))
 
-  pub tell-refused : (b : ℕ) (t : AwaitingReply) (x : Untold) → p ≡ Reply t → Tells M m t b (Err x) → Turns M m p (λ i. Tell i b) (Refused x.fault) (Reply x.play)
-  tell-refused b t x is h qs i start told at =
+  pub tell_refused : (b : ℕ) (t : AwaitingReply) (x : Untold) → p ≡ Reply t → Tells M m t b (Err x) → Turns M m p (λ i. Tell i b) (Refused x.fault) (Reply x.play)
+  tell_refused b t x is h qs i start told at =
       let at' = seen (Reply t) is qs i start told at in
       let (step, state, steps, choice) = h qs i start told at' in
       let same : replying start told t ≡ replying start told x.play = λ j. record { start = start; told = told; state = sym state j; steps = sym steps j; turn = to_reply (sym choice j) } in

@@ -34,8 +34,8 @@ lest false x h = refl
 
 module _ (M : Meaning) (out : ℕ) (m : Model) (f : ℕ) where
   -- the answer to a query is the mark
-  pub marked-so : (s : ℕ) (x : Bool) → Calls M out m (query f s) (told x) m → x ≡ m.rows.marked f s
-  marked-so s x h = told_is M (world m (replicate out (begun 0))) _ f s x (h (replicate out (begun 0)) (length-replicate out (begun 0)))
+  pub marked_so : (s : ℕ) (x : Bool) → Calls M out m (query f s) (told x) m → x ≡ m.rows.marked f s
+  marked_so s x h = told_is M (world m (replicate out (begun 0))) _ f s x (h (replicate out (begun 0)) (length-replicate out (begun 0)))
 
   -- a refusal at one state is that of every state
   pub refused_all : (s : ℕ) (e : Fault) → s < M.states → Calls M out m (query f s) (refused e) m → (t : ℕ) → t < M.states → Calls M out m (query f t) (refused e) m
@@ -51,15 +51,15 @@ module _ (M : Meaning) (out : ℕ) (m : Model) (f : ℕ) where
     pub starts : all ≡ true ↔ ((s : ℕ) → s < n → M.start s ≡ true → s ∈ m.rows.marked f)
     pub answers : (s : ℕ) → s < n → Calls M out m (query f s) (told (m.rows.marked f s)) m
 
-  pub asked-none : Asked 0 0 true
-  asked-none = record { counted = refl; starts = (λ _ s lt. absurd (omega arith), λ _. refl); answers = λ s lt. absurd (omega arith) }
+  pub asked_none : Asked 0 0 true
+  asked_none = record { counted = refl; starts = (λ _ s lt. absurd (omega arith), λ _. refl); answers = λ s lt. absurd (omega arith) }
 
   pub count_le : (n : ℕ) → count (m.rows.marked f) n ≤ n
   count_le zero = omega arith
   count_le (suc n) = let h = count_le n in cond_both (m.rows.marked f n) 1 0 (λ k. count (m.rows.marked f) n + k ≤ suc n) (λ _. omega arith) (λ _. omega arith)
 
-  pub asked-more : (n granted : ℕ) (all : Bool) → Asked n granted all → (x : Bool) → Calls M out m (query f n) (told x) m → (k : ℕ) → k ≡ cond x 1 0 → (still : Bool) → still ≡ all && (not (M.start n) || x) → Asked (n + 1) (granted + k) still
-  asked-more n granted all h x a k ek still es = let is = marked-so n x a in record {
+  pub asked_more : (n granted : ℕ) (all : Bool) → Asked n granted all → (x : Bool) → Calls M out m (query f n) (told x) m → (k : ℕ) → k ≡ cond x 1 0 → (still : Bool) → still ≡ all && (not (M.start n) || x) → Asked (n + 1) (granted + k) still
+  asked_more n granted all h x a k ek still es = let is = marked_so n x a in record {
     counted = rw add-one ((λ i. h.counted i + ek i) ∙ ap (λ b. count (m.rows.marked f) n + cond b 1 0) is);
     starts = (
       λ y. let p = and_parts all (not (M.start n) || x) (sym es ∙ y) in
@@ -70,8 +70,8 @@ module _ (M : Meaning) (out : ℕ) (m : Model) (f : ℕ) where
   }
 
   -- after the queries at all states
-  pub asked-all : (n granted : ℕ) (all : Bool) (states : ℕ) → n ≡ states → states ≡ M.states → Asked n granted all → Reports M out m f (Ok (record { goal = f; granted = granted; states = states; all = all }))
-  asked-all n granted all states en es h =
+  pub asked_all : (n granted : ℕ) (all : Bool) (states : ℕ) → n ≡ states → states ≡ M.states → Asked n granted all → Reports M out m f (Ok (record { goal = f; granted = granted; states = states; all = all }))
+  asked_all n granted all states en es h =
       let is = en ∙ es in (
         λ s lt. h.answers s (omega (arith, is)),
         record {

@@ -37,20 +37,20 @@ module _ (M : Meaning) (b : Rows) (ws : List Word) where
   fits h some = let t = passes (refusals M (world (holding b (take 0 ws)) []) (Enter (word_at ws 0))) (h 0 some) in t.0
 
   -- on the way to it
-  pub fits-still : (m : Model) → Leads M (holding b ws) m → no_board M (holding b ws) ≡ false → no_board M m ≡ false
-  fits-still m h fit = (λ i. eqb (h.rows i) 0 || not (eqb (h.states i) M.states)) ∙ fit
+  pub fits_still : (m : Model) → Leads M (holding b ws) m → no_board M (holding b ws) ≡ false → no_board M m ≡ false
+  fits_still m h fit = (λ i. eqb (h.rows i) 0 || not (eqb (h.states i) M.states)) ∙ fit
 
-  entered-run : (n : ℕ) → n ≤ length ws → Entered M b ws (length ws) → (cs : List Call) × (rs : List Answer) × Run M (opened b) cs rs (world (holding b (take n ws)) [])
-  entered-run zero le h = ([], [], rest (opened b))
-  entered-run (suc n) le h =
-      let (cs, rs, run) = entered-run n (omega arith) h in
+  entered_run : (n : ℕ) → n ≤ length ws → Entered M b ws (length ws) → (cs : List Call) × (rs : List Answer) × Run M (opened b) cs rs (world (holding b (take n ws)) [])
+  entered_run zero le h = ([], [], rest (opened b))
+  entered_run (suc n) le h =
+      let (cs, rs, run) = entered_run n (omega arith) h in
       let more = subst (λ k. holding b (take k ws) ≡ entered (holding b (take n ws)) (goal_of (word_at ws n))) (add-one n) (sym (holding_more b ws n (omega arith))) in
       (_, _, run_more M _ _ _ cs rs _ _ run (step_does M _ (Enter (word_at ws n)) _ _ (h n (omega arith)) (refl, ap (λ (y : Model). world y []) more)))
 
   pub judged : Lawful M → Sound b → (m : Model) (xs : List Line) → Entered M b ws (length ws) → Leads M (holding b ws) m → m.settled ≡ length ws → length xs ≡ length ws →
       ((f : ℕ) → f < length ws → IsLine M f (m.rows.marked f) (line_at xs f)) → Judged M b ws xs
   judged law sound m xs h leads settled long lines =
-      let (cs, rs, run) = entered-run (length ws) (omega arith) h in
+      let (cs, rs, run) = entered_run (length ws) (omega arith) h in
       let run' = subst (λ (y : List Word). Run M (opened b) cs rs (world (holding b y) [])) (take_all (length ws) ws (omega arith)) run in
       let stands = (law_stands M law b sound _ _ _ (run_append M _ _ _ _ _ _ _ run' leads.run)).promise.decides in
       record {
@@ -77,8 +77,8 @@ module _ (M : Meaning) (b : Rows) (ws : List Word) where
     pub lead : (m' : Model) → Leads N m m' → Leads M (holding b ws) m'
     lead m' = subst₂ (λ (X : Meaning) (y : Model). Leads X y m') same holds
 
-  pub ready-still : (N : Meaning) → N ≡ M → (m : Model) → Leads M (holding b ws) m → Entered M b ws (length ws) → 0 < length ws → no_board N m ≡ false
-  ready-still N same m leads h some = subst (λ (X : Meaning). no_board X m ≡ false) (sym same) (fits-still m leads (fits h some))
+  pub ready_still : (N : Meaning) → N ≡ M → (m : Model) → Leads M (holding b ws) m → Entered M b ws (length ws) → 0 < length ws → no_board N m ≡ false
+  ready_still N same m leads h some = subst (λ (X : Meaning). no_board X m ≡ false) (sym same) (fits_still m leads (fits h some))
 
   pub judges : Lawful M → Sound b → (N : Meaning) → N ≡ M → (m : Model) → Entered M b ws (length ws) → Leads M (holding b ws) m → m.settled ≡ length ws → (r : Result (Vec Line Global) Stop) →
       MatchResult r (λ v. (length (vec_items v) ≡ length ws) × ((f : ℕ) → f < length ws → IsLine N f (m.rows.marked f) (line_at (vec_items v) f))) (λ e. e ≡ Memory) → Judges M b ws r

@@ -38,11 +38,11 @@ last : (k : ℕ) (xs : List Line) (x : Line) → length xs ≡ k → line_at (xs
 last k xs x e = get_or-append_right xs (x ∷ []) k k _ e (omega arith) ∙ ap (λ n. line_at (x ∷ []) n) (sub_self k)
 
 module _ (M : Meaning) (R : ℕ → States) where
-  pub lined-none : (xs : List Line) → xs ≡ [] → Lined M R 0 xs
-  lined-none xs e = record { long = ap length e; lines = λ f lt. absurd (omega arith) }
+  pub lined_none : (xs : List Line) → xs ≡ [] → Lined M R 0 xs
+  lined_none xs e = record { long = ap length e; lines = λ f lt. absurd (omega arith) }
 
-  pub lined-more : (k : ℕ) (xs ys : List Line) (x : Line) → Lined M R k xs → IsLine M k (R k) x → ys ≡ xs ++ x ∷ [] → Lined M R (k + 1) ys
-  lined-more k xs ys x h is e = subst (Lined M R (k + 1)) (sym e) (record {
+  pub lined_more : (k : ℕ) (xs ys : List Line) (x : Line) → Lined M R k xs → IsLine M k (R k) x → ys ≡ xs ++ x ∷ [] → Lined M R (k + 1) ys
+  lined_more k xs ys x h is e = subst (Lined M R (k + 1)) (sym e) (record {
     long = length_push xs x ∙ ap (λ n. n + 1) h.long;
     lines = below_more _ _ (λ f lt. subst (IsLine M f (R f)) (sym (get_or_append_left xs (x ∷ []) _ f (omega (arith, h.long)))) (h.lines f lt)) (subst (IsLine M k (R k)) (sym (last k xs x h.long)) is);
   })

@@ -1,13 +1,13 @@
 use Rattle.std.proofs.Common.{◌≡◌, vec_items, sym, refl, ap, ◌∙◌, arith}
 use Rattle.std.specs.List.{insert}
 use Rattle.law.specs.declared.call.Call.TheVariants.{Announce}
-use Rattle.rehearsal.proofs.Turning.{announce-none}
+use Rattle.rehearsal.proofs.Turning.{announce_none}
 use Rattle.rehearsal.proofs.Seating.{seated_past, turn_served}
 use Rattle.rehearsal.proofs.desk.serve_announce.Goals as goal
 
 pub returns-then-i-len : goal.returns-then-i-len
 returns-then-i-len g c = record {
-  served = λ qs h. (qs, announce-none _ _ qs c.args.i (seated_past (vec_items c.args.plays.now) qs c.args.i h (omega (arith, c.if-i-len.true, c.len.ensures, c.args.plays.now.ok.0))), h);
+  served = λ qs h. (qs, announce_none _ _ qs c.args.i (seated_past (vec_items c.args.plays.now) qs c.args.i h (omega (arith, c.if-i-len.true, c.len.ensures, c.args.plays.now.ok.0))), h);
   counted = refl;
   room = c.requires.room;
 }

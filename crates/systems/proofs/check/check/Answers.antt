@@ -13,15 +13,15 @@ returns-in-Some c = masked c.in-Some.place (sym c.if-not-shaped.ensures) c.in-So
 
 pub returns-in-Some-first_bad_mark : goal.returns-in-Some-first_bad_mark
 returns-in-Some-first_bad_mark c =
-    marked c.in-Some-first-bad-mark.place (sym c.if-not-shaped.ensures) c.in-default.ensures c.in-Some-first-bad-mark.ensures
+    marked c.in-Some-first_bad_mark.place (sym c.if-not-shaped.ensures) c.in_default.ensures c.in-Some-first_bad_mark.ensures
 
 pub returns-in-Some-first_bad_move : goal.returns-in-Some-first_bad_move
 returns-in-Some-first_bad_move c =
-    moved c.in-Some-first-bad-move.place (sym c.if-not-shaped.ensures) c.in-default.ensures c.in-default-first-bad-mark.ensures c.in-Some-first-bad-move.ensures
+    moved c.in-Some-first_bad_move.place (sym c.if-not-shaped.ensures) c.in_default.ensures c.in_default-first_bad_mark.ensures c.in-Some-first_bad_move.ensures
 
 pub returns-then-not-has_start : goal.returns-then-not-has_start
 returns-then-not-has_start c =
-    startless (sym c.if-not-shaped.ensures) c.in-default.ensures c.in-default-first-bad-mark.ensures c.in-default-first-bad-move.ensures (sym c.if-not-has_start.ensures)
+    startless (sym c.if-not-shaped.ensures) c.in_default.ensures c.in_default-first_bad_mark.ensures c.in_default-first_bad_move.ensures (sym c.if-not-has_start.ensures)
 
 none_bad : {X : Type 0} (p : X → Bool) (xs : List X) → First p xs None → not (some_of p xs) ≡ true
 none_bad p xs h = not_from_false (some_of p xs) (sym (some_first p xs None h))

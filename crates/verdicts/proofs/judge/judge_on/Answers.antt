@@ -1,5 +1,5 @@
 use Rattle.std.proofs.Common.{length, ap, ◌∙◌, arith}
-use Rattle.verdicts.proofs.Lines.{many, none, ready, lead, ready-still, judges}
+use Rattle.verdicts.proofs.Lines.{many, none, ready, lead, ready_still, judges}
 use Rattle.verdicts.proofs.judge.judge_on.Goals as goal
 
 pub settle-all-requires : goal.settle-all-requires
@@ -20,7 +20,7 @@ report-all-requires g c =
     let same = ap g.S.System.means c.enter-all.ensures.same in
     let same' = ap g.S.System.means c.settle-all.ensures.same ∙ same in
     record {
-      fit = λ some. ready-still _ _ _ _ same' _ (lead _ _ _ _ same _ holds _ leads) entered some;
+      fit = λ some. ready_still _ _ _ _ same' _ (lead _ _ _ _ same _ holds _ leads) entered some;
       settled = omega (arith, settled);
       many = omega (arith, many _ _ _ _ same _ holds, ap length leads.goals);
     }

@@ -1,14 +1,14 @@
 use Rattle.std.proofs.Common.{◌≡◌, ◌∙◌, arith}
-use Rattle.verdicts.proofs.Reporting.{has_line, lined-none, lined-more}
+use Rattle.verdicts.proofs.Reporting.{has_line, lined_none, lined_more}
 use Rattle.verdicts.proofs.judge.report_all.Goals as goal
 
 pub loop-goal-init : goal.loop-goal-init
-loop-goal-init g c = let h = c.in-ok-lines.ensures in (lined-none _ _ _ h.items, h.capacity)
+loop-goal-init g c = let h = c.in-ok-lines.ensures in (lined_none _ _ _ h.items, h.capacity)
 
 pub loop-goal-preserved : goal.loop-goal-preserved
 loop-goal-preserved g c =
     let h = c.loop-goal.invariant in
-    (lined-more _ _ _ _ _ c.in-ok-line.line h.0 c.in-ok-line.ensures.1 c.push-reserved.ensures.items, omega (arith, h.1, c.push-reserved.ensures.capacity))
+    (lined_more _ _ _ _ _ c.in-ok-line.line h.0 c.in-ok-line.ensures.1 c.push-reserved.ensures.items, omega (arith, h.1, c.push-reserved.ensures.capacity))
 
 pub returns-in-err-line : goal.returns-in-err-line
 returns-in-err-line g c =

@@ -2,7 +2,7 @@ use Rattle.std.proofs.Common.{◌≡◌, ◌≤◌, Bool, true, false, cond, not
 use mir.Val.{bool_byte}
 use Rattle.std.proofs.lemmas.Result.{err_from_is_err_and}
 use Rattle.cases.specs.Shows.{model}
-use Rattle.verdicts.proofs.Counting.{asked-more, asked-all, count_le, refused_all}
+use Rattle.verdicts.proofs.Counting.{asked_more, asked_all, count_le, refused_all}
 use Rattle.verdicts.proofs.report.report.Goals as goal
 
 byte_is : (x : Bool) → bool_byte x ≡ cond x 1 0
@@ -20,7 +20,7 @@ overflow-add-granted g c =
 
 pub loop-state-preserved : goal.loop-state-preserved
 loop-state-preserved g c =
-    asked-more _ _ _ _ _ _ _ c.loop-state.invariant c.in-ok-here.here c.in-ok-here.ensures.steps _ (byte_is c.in-ok-here.here) _
+    asked_more _ _ _ _ _ _ _ c.loop-state.invariant c.in-ok-here.here c.in-ok-here.ensures.steps _ (byte_is c.in-ok-here.here) _
     (c.still-all.ensures ∙ ap (λ b. c.loop-state.all && (not b || c.in-ok-here.here)) (c.start.ensures ∙ ap (λ y. (g.S.System.means y).start c.loop-state.state) c.system-in-loop-state.ensures))
 
 pub returns-in-err-here : goal.returns-in-err-here
@@ -32,4 +32,4 @@ returns-in-err-here g c =
 pub returns : goal.returns
 returns g c =
     let size = c.states-states.ensures ∙ ap (λ y. (g.S.System.means y).states) c.system.ensures in
-    asked-all _ _ _ _ _ _ _ _ (omega (arith, c.loop-state-test.false, c.loop-state.auto.state-end)) size c.loop-state.invariant
+    asked_all _ _ _ _ _ _ _ _ (omega (arith, c.loop-state-test.false, c.loop-state.auto.state-end)) size c.loop-state.invariant

@@ -25,7 +25,7 @@ invariant_of-self c =
     let still =
     kept (vec_items me.points) c.deref_mut.result.now ws (vec_items (with_items me.points ws)) me.count me.height (vec_len me.points) c.args.row
     lent.value lent.len me.fits me.top me.up is c.assign_at.ensures.rise c.assign_at.ensures.others in
-    (me.fits, (still.0, (still.1, tt)))
+    record { fits = me.fits; top = still.0; up = still.1 }
 
 pub returns-then-state-self : goal.returns-then-state-self
 returns-then-state-self c =

@@ -11,7 +11,7 @@ invariant_of-result c =
     let high : h ≡ whole_rows n (n + 1) (vec_len c.args.memory) = new_height n h c.len.result (vec_len c.args.memory) c.min-top.result c.min-top.ensures c.len.ensures c.height_of-height.ensures in
     let each = new_rows ps n h (vec_len c.args.memory) c.min-top.result high c.min-top.ensures (c.fill.ensures.items (λ y e. e)) in
     let all = new_rise ps n h each in
-    (high ∙ ap (λ k. whole_rows n (n + 1) k) (sym c.fill.ensures.len), (top_from ps n h all, (up_from ps n h all, tt)))
+    record { fits = high ∙ ap (λ k. whole_rows n (n + 1) k) (sym c.fill.ensures.len); top = top_from ps n h all; up = up_from ps n h all }
 
 pub returns : goal.returns
 returns c =

@@ -3,7 +3,7 @@ use Rattle.game.specs.Meaning.{member}
 use Rattle.law.specs.Refusals.{no_sheet, fits_side}
 use Rattle.cases.specs.declared.sheet.Sheet.{Sheet}
 use Rattle.cases.specs.Shows.{plan_of, model}
-use Rattle.cases.proofs.Telling.{tell-refused, tell-does}
+use Rattle.cases.proofs.Telling.{tell_refused, tell_does}
 use Rattle.cases.proofs.case.Case.tell.Goals as goal
 
 sheeted : (o : Option Sheet) → is_some o ≡ true → no_sheet (plan_of o) ≡ false
@@ -16,7 +16,7 @@ returns-then-not-is-reply g c qs i start told at =
     let M = g.S.System.means me.system in
     let t = c.args.play in
     let known : t.state < M.states = omega (arith, c.if-play-states.false, c.states.ensures) in (
-      tell-refused M (model g.B.Board.shows me) qs i c.args.reply start told t at (sym c.is-unfit.ensures ∙ c.if-is-unfit.false) (sheeted me.sheet (c.is-none.ensures ∙ ap not c.if-is-none.false)) known
+      tell_refused M (model g.B.Board.shows me) qs i c.args.reply start told t at (sym c.is-unfit.ensures ∙ c.if-is-unfit.false) (sheeted me.sheet (c.is-none.ensures ∙ ap not c.if-is-none.false)) known
           (ap (λ x. fits_side M (λ k. not (member x k)) t.state c.args.reply) (sym c.group.ensures) ∙ sym c.is-reply.ensures ∙ c.if-not-is-reply.true) _ c.refusal-then-not-is-reply.ensures,
       refl,
       refl,
@@ -29,5 +29,5 @@ returns g c qs i start told at =
     let M = g.S.System.means me.system in
     let t = c.args.play in
     let known : t.state < M.states = omega (arith, c.if-play-states.false, c.states.ensures) in
-    tell-does M (model g.B.Board.shows me) qs i c.args.reply start told t at (sym c.is-unfit.ensures ∙ c.if-is-unfit.false) (sheeted me.sheet (c.is-none.ensures ∙ ap not c.if-is-none.false)) known
+    tell_does M (model g.B.Board.shows me) qs i c.args.reply start told t at (sym c.is-unfit.ensures ∙ c.if-is-unfit.false) (sheeted me.sheet (c.is-none.ensures ∙ ap not c.if-is-none.false)) known
     (ap (λ x. fits_side M (λ k. not (member x k)) t.state c.args.reply) (sym c.group.ensures) ∙ sym c.is-reply.ensures ∙ c.if-not-is-reply.false) c.land.result c.land.ensures

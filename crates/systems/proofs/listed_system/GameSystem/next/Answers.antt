@@ -6,7 +6,7 @@ use Rattle.systems.specs.Fits.{bit, move_fits}
 use Rattle.systems.specs.Joint.{all_below, joint}
 use Rattle.systems.specs.Lists.{allows, leads}
 use Rattle.systems.specs.lemmas.GameLawful.{fine, place_below}
-use Rattle.systems.specs.lemmas.Joints.{joint-is}
+use Rattle.systems.specs.lemmas.Joints.{joint_is}
 use Rattle.systems.specs.declared.listed.Game.{Game}
 use Rattle.systems.proofs.Walk.{shift_short, shift_long, joint_long, actions_pass}
 use Rattle.systems.proofs.listed_system.GameSystem.next.Goals as goal
@@ -34,7 +34,7 @@ tested : (g : Game) (s ch : ℕ) → s < g.lists.states → ch < 4 ^ g.lists.age
 tested g s ch hs hc =
     let y = g.lists in
     let test : ℕ → ℕ → ℕ → Bool = λ i s a. bit (get_or y.masks.now (s * y.agents + i) 0) a in
-    joint-is y.agents y.states test s ch hs hc ∙ sym (actions_pass y.agents (λ i a. test i s a) ch (fine y g.fine).few_agents)
+    joint_is y.agents y.states test s ch hs hc ∙ sym (actions_pass y.agents (λ i a. test i s a) ch (fine y g.fine).few_agents)
 
 pub returns-then-not-masks_allow : goal.returns-then-not-masks_allow
 returns-then-not-masks_allow c =
