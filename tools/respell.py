@@ -15,6 +15,7 @@ import sys
 EDGE = r"\s(){}\[\].;,:@«»`"
 HEAD = re.compile(r"^(?:abbrev |unfoldable |private |irreducible )*(?:pub )?(?:abbrev |unfoldable |data |record |open )*([^\s:(){},]+)(?= *[({:]| :|$| where)")
 INNER = re.compile(r"^ +(?:abbrev |unfoldable )?(?:pub )?([^\s:(){},]+) :")
+LIBRARY = re.compile(r"^ *(?:ghost )?use (?:Rattle\.std\.|(?!Rattle)\w+\.)[\w.]*\{([^}]*)\}", re.M)
 SKIP = (" ", "--", "use", "infix", "pub use", "mod", "pub mod")
 # Names with a dash that the toolchain's script turned already: in pages they are turned here.
 MADE = re.compile(r"[a-z][a-z-]*-[a-z-]*$")
@@ -93,10 +94,13 @@ def main():
     pattern = re.compile(f"(?<![^{EDGE}])(?:" + "|".join(re.escape(n) for n in sorted(names, key=len, reverse=True)) + f")(?![^{EDGE}])")
     for path in files("crates", (".antt", ".rt", ".edit")):
         text = text_of(path)
+        # A name that the file takes from a library of the toolchain stays.
+        taken = {w.strip() for line in LIBRARY.findall(text) for w in line.split(",")}
+        mine = {n: n if n in taken else new for n, new in names.items()}
         if path.endswith(".edit"):
-            new = turn_words(text, names, pattern)
+            new = turn_words(text, mine, pattern)
         else:
-            new = turn_code(text, names, pattern, "--" if path.endswith(".antt") else "//")
+            new = turn_code(text, mine, pattern, "--" if path.endswith(".antt") else "//")
         if new != text:
             for n in set(pattern.findall(text)):
                 if re.search(f"(?<![^{EDGE}]){re.escape(names[n])}(?![^{EDGE}])", text):

@@ -9,8 +9,8 @@ pub returns-then-misfits : goal.returns-then-misfits
 returns-then-misfits c =
     subst (λ e. Reads c.args.bytes.now (Err e)) (sym c.fault.ensures) (misfits (sym c.misfits.ensures ∙ c.if-misfits.true))
 
-pub returns-in-err-reader : goal.returns-in-err-reader
-returns-in-err-reader c =
-    let p = err_from_is_err_and c.from-residual.result c.from-residual.ensures.1 in
+pub returns-in_err-reader : goal.returns-in_err-reader
+returns-in_err-reader c =
+    let p = err_from_is_err_and c.from_residual.result c.from_residual.ensures.1 in
     rw (p.1, p.2)
-    (reads_refused c.args.bytes.now c.in-err-reader.field-0.0 (sym c.misfits.ensures ∙ c.if-misfits.false) c.in-err-reader.ensures)
+    (reads_refused c.args.bytes.now c.in_err-reader.field-0.0 (sym c.misfits.ensures ∙ c.if-misfits.false) c.in_err-reader.ensures)

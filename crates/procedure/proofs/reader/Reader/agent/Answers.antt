@@ -12,7 +12,7 @@ returns c =
     let r = c.args.self.now in
     let x = c.args.word in
     let b = c.requires.between in
-    let more = c.in-ok-push.ensures.items in
+    let more = c.in_ok-push.ensures.items in
     let right : judged (x.a + x.d) (agent_fits (vec_len r.sizes) x) (crowded r.states x) ≡ 0 = search rules in
     let one : 0 < x.c = search rules in
     let empty : vec_len r.masks ≡ 0 = r.masks.ok.0 ∙ ap length b.idle.masks in
@@ -30,7 +30,7 @@ returns c =
             small = search rules;
           };
           sizes = more ∙ ap (λ v. v ++ (x.c ∷ [])) b.sizes;
-          count = omega (arith, c.in-ok-push.ensures.len, c.requires.more);
+          count = omega (arith, c.in_ok-push.ensures.len, c.requires.more);
           draft = record { one = search rules; few = search rules; allows = all_none _ _ b.idle.masks; lands = all_none _ _ b.idle.rules };
           later = b.later;
         },

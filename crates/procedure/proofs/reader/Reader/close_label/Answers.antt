@@ -15,9 +15,9 @@ returns c =
     let h = c.requires.complete in
     let ls = vec_items r.labels in
     let x : Label = record { atom = r.line; conditions = c.replace-conditions.result } in
-    let more = c.in-ok-push.ensures.items in
+    let more = c.in_ok-push.ensures.items in
     let line = label_word (vec_len r.wants) r.line ∷ map local_word (vec_items r.wants) in
-    let some : 0 < vec_len c.push.new.self = omega (arith, c.in-ok-push.ensures.len) in
+    let some : 0 < vec_len c.push.new.self = omega (arith, c.in_ok-push.ensures.len) in
     record {
       at = refl;
       ready = (

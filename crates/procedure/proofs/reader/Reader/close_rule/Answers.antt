@@ -18,7 +18,7 @@ returns c =
     let h = c.requires.within in
     let rs = vec_items r.rules in
     let x : Rule = record { conditions = c.replace-conditions.result; next = r.line } in
-    let more = c.in-ok-push.ensures.items in
+    let more = c.in_ok-push.ensures.items in
     let line = rule_word (vec_len r.tests) r.line ∷ map condition_word (vec_items r.tests) in
     let P : List Rule → Type 0 = λ rs. all_of (λ q. ltb q.next r.locals) rs ≡ true in
     record {

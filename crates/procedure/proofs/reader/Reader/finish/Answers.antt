@@ -14,11 +14,11 @@ returns c =
     let r = c.args.self.now in
     let h = c.requires.ready.0 in
     let gs = vec_items r.agents in
-    let more = c.in-ok-push.ensures.items in
+    let more = c.in_ok-push.ensures.items in
     let g : AgentText = record { locals = r.locals; masks = vec_items r.masks; rules = map rule_text (vec_items r.rules) } in
     let the : Vec ℕ Global → Vec Rule Global → AgentText = λ ms rs. record { locals = r.locals; masks = vec_items ms; rules = map rule_text (vec_items rs) } in
     let count : vec_len c.push.new.self ≡ vec_len r.sizes =
-    omega (arith, c.in-ok-push.ensures.len, r.sizes.ok.0, r.agents.ok.0, ap length h.sizes, length_push (map (λ (v : Agent). v.locals) gs) r.locals, length-map gs (λ (v : Agent). v.locals)) in
+    omega (arith, c.in_ok-push.ensures.len, r.sizes.ok.0, r.agents.ok.0, ap length h.sizes, length_push (map (λ (v : Agent). v.locals) gs) r.locals, length-map gs (λ (v : Agent). v.locals)) in
     record {
       between = record {
         numbered = h.numbered;

@@ -12,10 +12,10 @@ returns-then-self-eq0 c =
     let r = c.args.self.now in
     let x = c.args.word in
     let ts' = vec_items c.push.new.self in
-    let more = c.in-ok-push.ensures.items in
+    let more = c.in_ok-push.ensures.items in
     let last : r.left ≡ 0 + 1 = omega (arith, c.if-self-eq0.true, c.requires.ready.3) in
     let right : judged (x.c + unnamed x) (want_fits (vec_items r.sizes) x) 0 ≡ 0 = search rules in
-    label_closes _ x _ _ _ _ _ c.close-label.ensures right
+    label_closes _ x _ _ _ _ _ c.close_label.ensures right
     (ap (λ v. labelled (part r) ++ (label_word v r.line ∷ map local_word ts')) (c.push.new.self.ok.0 ∙ sym (add-zero (length ts')))
     ∙ line_goes local_word (labelled (part r)) (λ v. label_word v r.line) (vec_items r.wants) ts' _ r.left 0 x more (want_word x (vec_items r.sizes) c.requires.kind right) last)
 
@@ -24,7 +24,7 @@ returns c =
     let r = c.args.self.now in
     let x = c.args.word in
     let h = c.requires.ready.0 in
-    let more = c.in-ok-push.ensures.items in
+    let more = c.in_ok-push.ensures.items in
     let fewer : r.left ≡ (r.left - 1) + 1 = omega (arith, c.requires.ready.3) in
     let right : judged (x.c + unnamed x) (want_fits (vec_items r.sizes) x) 0 ≡ 0 = search rules in
     taken_at stage.LabelLine _ _ _ _ c.requires.at (record {

@@ -3,16 +3,16 @@ use Rattle.procedure.specs.Parts.{product}
 use Rattle.procedure.proofs.Every.{product_agents}
 use Rattle.procedure.proofs.reader.Reader.procedure.Goals as goal
 
-pub invariant-of-system : goal.invariant-of-system
-invariant-of-system c =
+pub invariant_of-system : goal.invariant_of-system
+invariant_of-system c =
     let r = c.args.self in
-    let h = c.requires.0 in (
-      omega (arith, h.all, h.numbered.some),
-      (
-        omega (arith, h.all, h.numbered.few),
-        (
-          product_agents (vec_items r.agents) ∙ ap product (sym h.sizes) ∙ sym h.sized.is,
-          (h.sized.small, (h.numbered.named, (c.requires.1, (h.known, tt)))),
-        ),
-      ),
-    )
+    let h = c.requires.0 in
+    record {
+      some = omega (arith, h.all, h.numbered.some);
+      few = omega (arith, h.all, h.numbered.few);
+      counted = product_agents (vec_items r.agents) ∙ ap product (sym h.sizes) ∙ sym h.sized.is;
+      small = h.sized.small;
+      named = h.numbered.named;
+      begins = c.requires.1;
+      known = h.known;
+    }

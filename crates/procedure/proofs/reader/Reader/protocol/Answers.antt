@@ -16,7 +16,7 @@ returns-then-len-self c =
     let h = c.requires.ready.0 in
     let ms = vec_items r.masks in
     let ms' = vec_items c.push.new.self in
-    let more = c.in-ok-push.ensures.items in
+    let more = c.in_ok-push.ensures.items in
     let g = agent_word (length (map agent_text (vec_items r.agents))) r.locals in
     let P : List ℕ → Type 0 = λ ms. all_of (λ m. ltb 0 m && ltb m 16) ms ≡ true in
     let right : judged (x.a + x.b) (protocol_fits (vec_len r.masks) x) 0 ≡ 0 = search rules in
@@ -51,12 +51,12 @@ returns-else-len-self c =
     let h = c.requires.ready.0 in
     let ms = vec_items r.masks in
     let ms' = vec_items c.push.new.self in
-    let more = c.in-ok-push.ensures.items in
+    let more = c.in_ok-push.ensures.items in
     let g = agent_word (length (map agent_text (vec_items r.agents))) r.locals in
     let P : List ℕ → Type 0 = λ ms. all_of (λ m. ltb 0 m && ltb m 16) ms ≡ true in
     let right : judged (x.a + x.b) (protocol_fits (vec_len r.masks) x) 0 ≡ 0 = search rules in
     let fewer : vec_len c.push.new.self < r.locals =
-    omega (arith, c.in-ok-push.ensures.len, c.len-2.ensures, c.if-len-self.false, c.requires.ready.1) in
+    omega (arith, c.in_ok-push.ensures.len, c.len-2.ensures, c.if-len-self.false, c.requires.ready.1) in
     taken_at stage.Protocols _ _ _ _ c.requires.at (record {
       right = right;
       says = protocol_says (heads (part r)) g ms ms' x (vec_len r.masks) c.requires.kind right r.masks.ok.0 more;

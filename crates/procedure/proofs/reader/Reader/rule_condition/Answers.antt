@@ -9,8 +9,8 @@ use Rattle.procedure.proofs.Says.{line_goes}
 use Rattle.procedure.proofs.Taking.{taken_at, rule_closes}
 use Rattle.procedure.proofs.reader.Reader.rule_condition.Goals as goal
 
-pub test-fits-requires : goal.test-fits-requires
-test-fits-requires c =
+pub test_fits-requires : goal.test_fits-requires
+test_fits-requires c =
     let r = c.args.self.now in
     omega (arith, r.sizes.ok.0, ap length c.requires.ready.0.sizes, length_push (map (λ (v : Agent). v.locals) (vec_items r.agents)) r.locals)
 
@@ -19,10 +19,10 @@ returns-then-self-eq0 c =
     let r = c.args.self.now in
     let x = c.args.word in
     let ts' = vec_items c.push.new.self in
-    let more = c.in-ok-push.ensures.items in
+    let more = c.in_ok-push.ensures.items in
     let last : r.left ≡ 0 + 1 = omega (arith, c.if-self-eq0.true, c.requires.ready.3) in
     let right : judged (x.c + unnamed x) (test_fits r.locals (get_or (vec_items r.sizes) 0 0) r.n x) 0 ≡ 0 = search rules in
-    rule_closes _ x _ _ _ _ _ c.close-rule.ensures right
+    rule_closes _ x _ _ _ _ _ c.close_rule.ensures right
     (ap (λ v. ruled (part r) ++ (rule_word v r.line ∷ map condition_word ts')) (c.push.new.self.ok.0 ∙ sym (add-zero (length ts')))
     ∙ line_goes condition_word (ruled (part r)) (λ v. rule_word v r.line) (vec_items r.tests) ts' _ r.left 0 x more c.condition_of.ensures last)
 
@@ -31,7 +31,7 @@ returns c =
     let r = c.args.self.now in
     let x = c.args.word in
     let h = c.requires.ready.0 in
-    let more = c.in-ok-push.ensures.items in
+    let more = c.in_ok-push.ensures.items in
     let fewer : r.left ≡ (r.left - 1) + 1 = omega (arith, c.requires.ready.3) in
     let right : judged (x.c + unnamed x) (test_fits r.locals (get_or (vec_items r.sizes) 0 0) r.n x) 0 ≡ 0 = search rules in
     taken_at stage.RuleLine _ _ _ _ c.requires.at (record {
