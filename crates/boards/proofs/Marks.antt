@@ -7,7 +7,7 @@ use Rattle.std.proofs.lemmas.Nat.{or_shr, or_mod, xor_shr, xor_mod, pow_pos, pow
 use Rattle.std.proofs.lemmas.Bool.{cases_order, cases_eq, eq-eqb, ne_eqb, cond-true, cond-false, and_right, cases_lt}
 use Rattle.std.proofs.lemmas.List.{get_or-set_same, get_or-set_other, get_or_read, get_or-take, get_or-drop, get_or_append_left, get_or-append_right, get_or-replicate, length-replicate, length-take-le, length-drop}
 use Rattle.std.proofs.lemmas.Bool.Decides.{nat_tests}
-use Rattle.boards.specs.Meaning.{with_mark, wiped, known, whole_rows}
+use Rattle.boards.specs.Meaning.{with_mark, wiped, whole_rows}
 use Rattle.boards.specs.Bits.{bit, mark_of, bit_rows}
 
 two : (x : ℕ) → x < 2 → (x ≡ 0) ⊎ (x ≡ 1)

@@ -7,7 +7,7 @@ use Rattle.std.proofs.lemmas.List.{length-replicate, get_or-replicate, get_or_pa
 use Rattle.std.proofs.lemmas.List.Edits.{length-between, get_or-between}
 use Rattle.std.proofs.lemmas.Slice.{between_is, take-put_mid_below, drop-put_mid, between-put_mid}
 use Rattle.std.proofs.lemmas.Bool.Decides.{nat_tests}
-use Rattle.boards.specs.Meaning.{Rows, with_mark, wiped, blank, whole_rows}
+use Rattle.boards.specs.Meaning.{with_mark, wiped, blank, whole_rows}
 use Rattle.boards.specs.Points.{member, Rise, row_at, change_rows}
 use Rattle.boards.proofs.Points.{at_most_parted}
 

@@ -1,12 +1,12 @@
 -- Goals and formulas. Assumes nothing.
-use Rattle.std.proofs.Common.{◌≡◌, ℕ, suc, ◌<◌, ◌≤◌, Bool, true, false, ◌⊎◌, ◌↔◌, refl, inl, inr, arith}
+use Rattle.std.proofs.Common.{◌≡◌, ℕ, suc, ◌<◌, ◌≤◌, Bool, true, false, ◌↔◌, refl, arith}
 use native.Mathlib.Decide.{dec_lt}
 use Rattle.game.specs.Meaning.{Meaning, Lawful}
-use Rattle.game.specs.Objectives.{States, ◌∈◌}
+use Rattle.game.specs.Objectives.{States}
 use Rattle.game.specs.Goals.{Goal}
 use Rattle.game.specs.Formulas.{Holds}
 use Rattle.game.specs.Theorems.{SetsDecideFormulas, FormulasAreSpelled, GoalsHaveSets}
-use Rattle.game.proofs.Bounded.{Decided, passes, passed, clash}
+use Rattle.game.proofs.Bounded.{passes, passed}
 use Rattle.game.proofs.Spelling.{decided, spelled}
 use Rattle.game.proofs.Holding.{holds?, passes_true}
 

@@ -1,6 +1,5 @@
 -- Where a goal holds is decided. Assumes nothing.
-use Rattle.std.proofs.Common.{◌≡◌, ℕ, ◌+◌, ◌<◌, Bool, true, false, ◌⊎◌, ◌↔◌, sym, refl, ap, ◌∙◌, subst, inl, inr, arith}
-use native.Mathlib.Decide.{dec_lt}
+use Rattle.std.proofs.Common.{◌≡◌, ℕ, ◌<◌, true, ◌⊎◌, refl, inl, inr}
 use Rattle.game.specs.Meaning.{Meaning, Lawful, member}
 use Rattle.game.specs.Objectives.{Objective, nexttime, always, until, States, ◌∈◌, ◌∉◌, Granted}
 use Rattle.game.proofs.Bounded.{all_or_some, true_or_false, clash, Decided, passes, passed, true?, false?, same?, both?, if?, below?}
@@ -8,7 +7,6 @@ use Rattle.game.proofs.Rounds.{Reached, reached_closed, reached_all}
 use Rattle.game.proofs.Strategy.{sheets_exist}
 use Rattle.game.specs.Goals.{Goal, TRUE, ATOM, NOT, OR, AND, EACH, COMMON, JOINT, NEXT, ALWAYS, UNTIL}
 use Rattle.game.specs.Formulas.{Doubts, Blind, Chain, stay, pass, Holds}
-use Rattle.game.proofs.Spelling.{chain_known}
 
 pub passes_true : {A : Type 0} → (e : Decided A) → A → passes e ≡ true
 passes_true (inl a) h = refl

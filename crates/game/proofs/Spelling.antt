@@ -1,12 +1,12 @@
 -- A goal over the sets of its operands, over their formulas, and over sets that agree. Assumes nothing.
-use Rattle.std.proofs.Common.{◌≡◌, ℕ, zero, suc, ◌+◌, ◌<◌, Bool, true, false, ◌&&◌, ltb, ◌⊎◌, ◌↔◌, List, length, get_or, sym, refl, ap, subst, ap₂, inl, inr, arith}
+use Rattle.std.proofs.Common.{◌≡◌, ℕ, zero, suc, ◌<◌, true, ltb, ◌⊎◌, ◌↔◌, List, length, get_or, sym, refl, ap, subst, ap₂, inl, inr, arith}
 use Rattle.std.proofs.lemmas.Bool.{ltb-true, and_parts}
-use Rattle.game.specs.Meaning.{Meaning, Lawful, Reply, GroupChoice, Pre}
-use Rattle.game.specs.Objectives.{Objective, nexttime, always, until, States, ◌∈◌, ◌∉◌, Granted, Inside, Contains}
+use Rattle.game.specs.Meaning.{Meaning, Lawful}
+use Rattle.game.specs.Objectives.{Objective, nexttime, always, until, States, ◌∈◌, ◌∉◌, Granted}
 use Rattle.game.proofs.Bounded.{true_or_false, clash}
 use Rattle.game.proofs.Planned.{pre_map}
 use Rattle.game.specs.Goals.{Goal, TRUE, ATOM, NOT, OR, AND, EACH, COMMON, JOINT, NEXT, ALWAYS, UNTIL, earlier, group_of}
-use Rattle.game.specs.Formulas.{Doubts, Blind, Chain, stay, pass, Aims, of_next, of_always, of_until, Holds, Formula, no', or', and', each, common, joint, next', always', until', Sat, over, written, formula}
+use Rattle.game.specs.Formulas.{Chain, stay, pass, Aims, of_next, of_always, of_until, Holds, Formula, no', or', and', each, common, joint, next', always', until', Sat, over, written, formula}
 
 pub chain_known : (M : Meaning) (g s t : ℕ) → s < M.states → Chain M g s t → t < M.states
 chain_known M g s t hs (stay s') = hs

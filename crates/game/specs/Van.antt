@@ -1,5 +1,5 @@
 -- The van and its counter: agent 0 is at the shop (0) or away (1), agent 1 has counted (1) or not (0). A worked example. Assumes nothing.
-use Rattle.std.specs.Prelude.{◌≡◌, ℕ, zero, suc, ◌+◌, ◌*◌, ◌/◌, ◌%◌, Bool, true, cond, ◌&&◌, ◌==◌, nat_lt}
+use Rattle.std.specs.Prelude.{◌≡◌, ℕ, zero, suc, ◌+◌, ◌*◌, ◌/◌, ◌%◌, Bool, cond, ◌&&◌, ◌==◌, nat_lt}
 use Rattle.game.specs.Meaning.{Meaning, Lawful, digit}
 use Rattle.game.specs.Objectives.{Objective, until, States, IsSetOf}
 use Rattle.game.specs.Sheets.{Sheet, IsSheet}

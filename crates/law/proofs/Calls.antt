@@ -1,24 +1,20 @@
 -- Each call keeps what stands. Assumes nothing.
-use Rattle.std.proofs.Common.{◌≡◌, ℕ, zero, suc, ◌+◌, ◌<◌, ◌≤◌, Bool, true, false, cond, not, ◌||◌, eqb, ltb, leb, ◌⊎◌, ◌↔◌, List, [], ◌∷◌, ◌++◌, length, take, drop, set, Some, None, Option, sym, refl, ap, ◌∙◌, subst, subst₂, inl, inr, arith, length-set}
-use Rattle.std.specs.List.{slice_get, remove, AllByRecursion as All}
+use Rattle.std.proofs.Common.{◌≡◌, ℕ, zero, suc, ◌+◌, ◌<◌, Bool, true, false, cond, not, eqb, List, [], ◌∷◌, ◌++◌, length, take, drop, Some, None, Option, sym, refl, ap, ◌∙◌, subst, subst₂, inl, inr, arith, length-set}
+use Rattle.std.specs.List.{slice_get, AllByRecursion as All}
 use Rattle.std.proofs.ByRecursion.{All-push, All-set, All-weaker, All-append, All-take, All-drop}
 use Rattle.std.proofs.lemmas.List.Edits.{length-remove}
 use Rattle.std.proofs.lemmas.List.{length_push, nil_from_length, get_or_append_left}
-use Rattle.std.proofs.lemmas.Bool.{not-false, leb-false, ltb-false, eqb-true, or_parts, both_ways, cases_Bool}
+use Rattle.std.proofs.lemmas.Bool.{not-false, leb-false, ltb-false, eqb-true, or_parts, both_ways}
 use Rattle.game.specs.Meaning.{Meaning, Lawful, member, GroupChoice, Reply}
-use Rattle.game.specs.Objectives.{Objective, States, ◌∈◌, ◌∉◌}
-use Rattle.game.specs.Sheets.{Sheet, IsSheet}
+use Rattle.game.specs.Objectives.{◌∈◌}
 use Rattle.game.proofs.Steps.{joint}
 use Rattle.game.proofs.Bounded.{clash}
-use Rattle.game.specs.declared.goal.Word.{Word}
-use Rattle.game.specs.declared.goal.Goal.{Goal}
 use Rattle.game.specs.declared.goal.Goal.TheVariants.{True as TRUE}
-use Rattle.game.specs.Goals.{goal_of, earlier, group_of}
-use Rattle.game.specs.Formulas.{Aims}
-use Rattle.law.specs.Worlds.{Plan, Model, Turn, to_move, to_reply, Play, World, goal_at, aim, met_by, met, led, IsPlan, with_replies}
-use Rattle.law.specs.Refusals.{Call, enter, settle, query, plan, move, reply, begin, announce, tell, end, strike, by_turn, awaiting_move, by_reply, awaiting_reply, no_board, no_sheet, granted_on, announcing, telling, refusals, first, fits_side}
-use Rattle.law.specs.Steps.{Answer, entered, Settled, planned, struck, with_model, with_plays, begun, announced, answered, Announces, Tells, Ends, Does, Ruled, Step, Run, rest, goes}
-use Rattle.law.specs.Laws.{Followed, Played, InPlay}
+use Rattle.game.specs.Goals.{goal_of, group_of}
+use Rattle.law.specs.Worlds.{Plan, Model, Turn, to_move, to_reply, Play, World, goal_at, aim, met_by, with_replies}
+use Rattle.law.specs.Refusals.{Call, enter, settle, query, plan, move, reply, begin, announce, tell, end, strike, by_turn, awaiting_move, by_reply, awaiting_reply, no_board, no_sheet, granted_on, announcing, telling, refusals, first}
+use Rattle.law.specs.Steps.{Answer, entered, planned, struck, with_model, with_plays, begun, announced, answered, Announces, Tells, Ends, Does, Ruled, Step, Run, rest, goes}
+use Rattle.law.specs.Laws.{Played, InPlay}
 use Rattle.game.proofs.Spelling.{aims_group}
 use Rattle.law.proofs.Sides.{sides_are_parts}
 use Rattle.law.proofs.Moving.{moves}

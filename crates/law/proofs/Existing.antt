@@ -1,24 +1,20 @@
 -- Every list of calls has a run. Assumes nothing.
-use Rattle.std.proofs.Common.{◌≡◌, ℕ, suc, ◌+◌, ◌<◌, ◌≤◌, Bool, true, false, cond, not, eqb, ◌⊎◌, ◌↔◌, List, [], ◌∷◌, ◌++◌, length, set, Some, None, Option, sym, refl, ap, ◌∙◌, subst, inl, inr, arith}
-use native.Mathlib.Decide.{dec_lt}
+use Rattle.std.proofs.Common.{◌≡◌, ℕ, ◌<◌, true, List, [], ◌∷◌, ◌++◌, length, set, Some, None, Option, refl}
 use Rattle.std.specs.List.{slice_get, remove, AllByRecursion as All}
-use Rattle.std.proofs.lemmas.Bool.{leb-false, not-false, eq-eqb, ne_eqb, cond-true, cond-false}
+use Rattle.std.proofs.lemmas.Bool.{leb-false, not-false}
 use Rattle.game.specs.Meaning.{Meaning, Lawful}
-use Rattle.game.specs.Objectives.{Objective, nexttime, always, until, States, ◌∈◌, ◌∉◌, IsSetOf}
-use Rattle.game.specs.Sheets.{Sheet, IsSheet}
-use Rattle.game.proofs.Bounded.{clash, passes, passed}
+use Rattle.game.specs.Objectives.{Objective, nexttime, always, until, States}
+use Rattle.game.proofs.Bounded.{clash}
 use Rattle.game.proofs.Strategy.{sheets_exist}
-use Rattle.boards.specs.Meaning.{Rows, Sound}
 use Rattle.game.specs.declared.goal.Goal.{Goal}
 use Rattle.game.specs.declared.goal.Goal.TheVariants.{True as TRUE, Atom as ATOM, Not as NOT, Or as OR, And as AND, Each as EACH, Common as COMMON, Joint as JOINT, Next as NEXT, Always as ALWAYS, Until as UNTIL}
 use Rattle.game.specs.Goals.{goal_of, strategic}
-use Rattle.game.specs.Formulas.{Aims, of_next, of_always, of_until, Holds}
-use Rattle.law.specs.Worlds.{Plan, Model, Play, World, opened, goal_at, met, IsPlan, IsReply, with_replies}
-use Rattle.law.specs.Refusals.{Call, enter, settle, query, plan, move, reply, begin, announce, tell, end, strike, awaiting_move, awaiting_reply, no_sheet, announcing, refusals, first}
+use Rattle.game.specs.Formulas.{Aims, of_next, of_always, of_until}
+use Rattle.law.specs.Worlds.{Plan, Model, Play, World, opened, goal_at, met, IsPlan}
+use Rattle.law.specs.Refusals.{Call, enter, settle, query, plan, move, reply, begin, announce, tell, end, strike, awaiting_move, awaiting_reply, announcing, refusals, first}
 use Rattle.law.specs.Steps.{Answer, number, done, told, entry, outcome, refused, idle, fault, entered, settled_as, planned, struck, with_model, with_plays, begun, announced, answered, Announces, Tells, Ends, Does, Ruled, Step, Run, rest, goes}
 use Rattle.law.specs.Laws.{RunsExist}
-use Rattle.game.proofs.Spelling.{aims_holds}
-use Rattle.law.proofs.Kept.{Fit, Kept}
+use Rattle.law.proofs.Kept.{Kept}
 use Rattle.law.proofs.Calls.{Fails, passes as all_pass, has_sheet, step_kept}
 use Rattle.law.proofs.Lawfully.{opened_kept}
 use Rattle.game.proofs.Goaled.{goals_have_sets}

@@ -1,11 +1,11 @@
 -- What the told pairs of a play say of its goal. Assumes nothing.
-use Rattle.std.proofs.Common.{◌≡◌, ℕ, zero, suc, ◌+◌, ◌<◌, ◌≤◌, Bool, true, false, leb, ◌⊎◌, ◌↔◌, List, [], ◌∷◌, length, sym, refl, ap, ◌∙◌, subst, inl, inr, arith}
-use Rattle.std.proofs.lemmas.Bool.{cases_lt, cases_eq, leb-true, leb-false, le-leb, both_ways}
-use Rattle.game.specs.Meaning.{Meaning, Lawful, GroupChoice, Reply}
-use Rattle.game.specs.Objectives.{Objective, nexttime, always, until, States, ◌∈◌, ◌∉◌, IsSetOf}
+use Rattle.std.proofs.Common.{◌≡◌, ℕ, suc, ◌+◌, ◌<◌, ◌≤◌, Bool, true, false, ◌↔◌, List, [], ◌∷◌, length, sym, refl, ap, ◌∙◌, subst, inl, inr, arith}
+use Rattle.std.proofs.lemmas.Bool.{cases_lt, leb-true, leb-false, le-leb, both_ways}
+use Rattle.game.specs.Meaning.{Meaning, Lawful}
+use Rattle.game.specs.Objectives.{Objective, nexttime, until, States, ◌∈◌, ◌∉◌, IsSetOf}
 use Rattle.game.specs.Plays.{MetBy, FailedBy}
-use Rattle.game.specs.Sheets.{Sheet, IsSheet}
-use Rattle.game.proofs.Bounded.{true_or_false, clash}
+use Rattle.game.specs.Sheets.{IsSheet}
+use Rattle.game.proofs.Bounded.{clash}
 use Rattle.game.proofs.Steps.{joint}
 use Rattle.game.proofs.Until.{granted_c}
 use Rattle.boards.specs.Meaning.{Rows}

@@ -1,18 +1,18 @@
 -- What every call keeps of the case: entering, settling, planning and striking. Assumes nothing.
-use Rattle.std.proofs.Common.{◌≡◌, ℕ, suc, ◌+◌, ◌<◌, ◌≤◌, min, Bool, true, false, cond, ◌&&◌, eqb, ltb, ◌⊎◌, ◌↔◌, List, [], ◌∷◌, ◌++◌, length, get_or, take, Some, None, Option, sym, refl, ap, ◌∙◌, subst, subst₂, inl, inr, arith}
+use Rattle.std.proofs.Common.{◌≡◌, ℕ, suc, ◌<◌, ◌≤◌, Bool, true, false, cond, ◌&&◌, eqb, ltb, ◌↔◌, [], ◌∷◌, length, get_or, Some, None, Option, sym, refl, ap, ◌∙◌, subst, subst₂, inl, inr, arith}
 use mathlib.Core.Path.{fun_ext}
-use Rattle.std.proofs.lemmas.Bool.{cases_eq, cases_lt, cases_Bool, ltb-true, lt-ltb, eq-eqb, ne_eqb, cond-true, cond-false, and_from, both_ways}
+use Rattle.std.proofs.lemmas.Bool.{cases_eq, cases_lt, ltb-true, lt-ltb, eq-eqb, ne_eqb, cond-true, cond-false, and_from, both_ways}
 use Rattle.std.proofs.lemmas.List.{get_or_append_left, get_or_at, get_or-take, length-take, length_push}
 use Rattle.std.specs.List.{AllByRecursion as All}
-use Rattle.game.specs.Meaning.{Meaning, Lawful}
+use Rattle.game.specs.Meaning.{Meaning}
 use Rattle.game.specs.Objectives.{Objective, States, ◌∈◌, ◌∉◌, IsSetOf}
-use Rattle.game.specs.Sheets.{Sheet, IsSheet}
-use Rattle.boards.specs.Meaning.{Rows, Sound, known}
+use Rattle.game.specs.Sheets.{IsSheet}
+use Rattle.boards.specs.Meaning.{Sound, known}
 use Rattle.game.specs.declared.goal.Goal.{Goal}
 use Rattle.game.specs.declared.goal.Goal.TheVariants.{True as TRUE}
 use Rattle.game.specs.Goals.{earlier, group_of}
 use Rattle.game.specs.Formulas.{Aims, Holds}
-use Rattle.law.specs.Worlds.{Plan, Model, Play, World, goal_at, planned_goal, aim, met_by, met, IsPlan, with_replies}
+use Rattle.law.specs.Worlds.{Plan, Model, Play, World, goal_at, planned_goal, aim, met_by, IsPlan, with_replies}
 use Rattle.law.specs.Steps.{entered, Settled, settled_as, planned, struck, below}
 use Rattle.law.specs.Laws.{Played, InPlay}
 use Rattle.game.proofs.Spelling.{holds_same, aims_same, aims_holds}

@@ -1,21 +1,17 @@
 -- What stands after every list of calls. Assumes nothing.
-use Rattle.std.proofs.Common.{◌≡◌, ℕ, suc, ◌+◌, ◌<◌, ◌≤◌, Bool, true, false, ◌⊎◌, ◌↔◌, List, [], ◌∷◌, length, get_or, Some, None, Option, sym, refl, ap, ◌∙◌, subst, subst₂, inl, inr, arith}
-use Rattle.std.specs.List.{AllByRecursion as All}
+use Rattle.std.proofs.Common.{◌≡◌, ℕ, suc, ◌+◌, ◌≤◌, true, ◌↔◌, [], Some, sym, refl, ◌∙◌, subst, subst₂, arith}
 use Rattle.std.proofs.ByRecursion.{All-weaker}
 use Rattle.game.specs.Meaning.{Meaning, Lawful}
-use Rattle.game.specs.Objectives.{Objective, until, States, ◌∈◌, ◌∉◌, IsSetOf}
+use Rattle.game.specs.Objectives.{Objective, until}
 use Rattle.game.specs.Plays.{MetBy, FailedBy}
-use Rattle.game.specs.Sheets.{Sheet, IsSheet}
+use Rattle.game.specs.Sheets.{IsSheet}
 use Rattle.game.proofs.Strategy.{strategy_theorem, granted_where_ensured}
 use Rattle.boards.specs.Meaning.{Rows, Sound}
-use Rattle.game.specs.declared.goal.Goal.{Goal}
-use Rattle.game.specs.declared.goal.Goal.TheVariants.{True as TRUE, Until as UNTIL}
+use Rattle.game.specs.declared.goal.Goal.TheVariants.{Until as UNTIL}
 use Rattle.game.specs.Goals.{group_of}
 use Rattle.game.specs.Formulas.{Aims, of_until}
-use Rattle.law.specs.Worlds.{Plan, Model, Play, World, opened, goal_at, aim, met_by, met, led, IsPlan, with_replies}
-use Rattle.law.specs.Refusals.{Call}
-use Rattle.law.specs.Steps.{Answer, Step}
-use Rattle.law.specs.Laws.{Speaks, Stands, Played, InPlay, Along, Meeting, Promise, Law}
+use Rattle.law.specs.Worlds.{Plan, Model, Play, World, opened, goal_at, aim, met_by, met, with_replies}
+use Rattle.law.specs.Laws.{Played, InPlay, Along, Meeting, Promise, Law}
 use Rattle.game.proofs.Spelling.{decided, spelled, aims_group}
 use Rattle.law.proofs.Kept.{Fit, Kept, aim_is, row_plan, set_of}
 use Rattle.law.proofs.Calls.{run_kept}

@@ -1,8 +1,8 @@
 -- What the sheet's move does at a granted state where the goal is not met. Assumes nothing.
-use Rattle.std.proofs.Common.{◌≡◌, ℕ, suc, ◌+◌, ◌<◌, Bool, true, false, ◌&&◌, ltb, ◌⊎◌, refl, inl, inr, arith}
+use Rattle.std.proofs.Common.{◌≡◌, ℕ, suc, ◌+◌, ◌<◌, true, false, ◌⊎◌, refl, inl, inr, arith}
 use Rattle.std.proofs.lemmas.Bool.{le-leb, and_parts, ltb-true}
 use Rattle.game.specs.Meaning.{Meaning, GroupChoice, Reply}
-use Rattle.game.specs.Objectives.{Objective, States, ◌∈◌, ◌∉◌}
+use Rattle.game.specs.Objectives.{Objective, States, ◌∈◌}
 use Rattle.game.specs.Sheets.{Sheet, IsSheet}
 use Rattle.boards.specs.Meaning.{Rows}
 use Rattle.game.specs.declared.goal.Goal.{Goal}

@@ -1,28 +1,24 @@
 -- Two runs of the same calls have the same answers. Assumes nothing.
-use Rattle.std.proofs.Common.{◌≡◌, ℕ, suc, ◌+◌, ◌<◌, ◌≤◌, min, Bool, true, false, cond, not, ◌||◌, eqb, ltb, leb, ◌⊎◌, ◌↔◌, List, [], ◌∷◌, ◌++◌, length, get_or, take, set, Some, None, Option, sym, refl, ap, ◌∙◌, subst, ap₂, subst₂, inl, inr, arith}
+use Rattle.std.proofs.Common.{◌≡◌, ℕ, suc, ◌<◌, ◌≤◌, min, Bool, true, false, cond, not, ◌||◌, eqb, ltb, leb, ◌↔◌, List, [], ◌∷◌, ◌++◌, length, get_or, take, set, Some, None, Option, sym, refl, ap, ◌∙◌, subst, ap₂, subst₂, inl, inr, arith}
 use mathlib.Core.Path.{fun_ext}
 use Rattle.std.specs.List.{slice_get, remove, AllByRecursion as All}
 use Rattle.std.proofs.lemmas.Bool.{cases_eq, cases_lt, not-false, leb-false}
 use Rattle.game.specs.Meaning.{Meaning, Lawful, member, GroupChoice}
-use Rattle.game.specs.Objectives.{Objective, States, ◌∈◌, ◌∉◌, IsSetOf}
-use Rattle.game.specs.Sheets.{Sheet, IsSheet}
-use Rattle.game.proofs.Bounded.{true_or_false, clash}
+use Rattle.game.specs.Objectives.{States, ◌∈◌, ◌∉◌, IsSetOf}
+use Rattle.game.specs.Sheets.{IsSheet}
 use Rattle.game.proofs.Strategy.{sheets_agree}
 use Rattle.game.proofs.Sets.{set_one}
-use Rattle.boards.specs.Meaning.{Rows, Sound}
-use Rattle.game.specs.declared.goal.Word.{Word}
-use Rattle.game.specs.declared.goal.Goal.{Goal}
 use Rattle.game.specs.declared.goal.Goal.TheVariants.{True as TRUE}
 use Rattle.game.specs.Goals.{word_of, goal_of, same_word, earlier, known, strategic, group_of}
 use Rattle.game.specs.Formulas.{Aims, Holds}
-use Rattle.law.specs.Worlds.{Plan, Model, Play, World, opened, goal_at, planned_goal, aim, met_by, met, IsPlan, IsReply, with_replies}
+use Rattle.law.specs.Worlds.{Plan, Model, Play, World, opened, goal_at, planned_goal, aim, met_by, IsPlan, IsReply, with_replies}
 use Rattle.law.specs.Refusals.{Call, enter, settle, query, plan, move, reply, begin, announce, tell, end, strike, awaiting_move, awaiting_reply, no_board, no_sheet, granted_on, announcing, telling, refusals, first, fits_side}
-use Rattle.law.specs.Steps.{Answer, number, done, told, entry, outcome, refused, idle, fault, entered, Settled, planned, below, struck, with_model, with_plays, begun, announced, answered, Announces, Tells, Ends, Does, Ruled, Step, Run, rest, goes}
+use Rattle.law.specs.Steps.{Answer, number, told, entry, outcome, below, with_plays, begun, announced, answered, Announces, Tells, Ends, Does, Ruled, Step, Run, rest, goes}
 use Rattle.law.specs.Laws.{SameAnswers}
 use Rattle.game.proofs.Spelling.{holds_same, aims_same, aims_group}
 use Rattle.law.proofs.Sides.{sides_are_parts}
 use Rattle.law.proofs.Moving.{met_same}
-use Rattle.law.proofs.Kept.{Fit, Kept, aim_is, Settles, settles, plan_same}
+use Rattle.law.proofs.Kept.{Kept, aim_is, Settles, settles, plan_same}
 use Rattle.law.proofs.Calls.{Fails, passes, same_states, granted_by, step_kept}
 use Rattle.law.proofs.Journeys.{aims_unique}
 use Rattle.law.proofs.Lawfully.{opened_kept}

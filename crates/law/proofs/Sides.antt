@@ -1,8 +1,8 @@
 -- The test of a side's choice. Assumes nothing.
-use Rattle.std.proofs.Common.{◌≡◌, ℕ, zero, suc, ◌^◌, ◌<◌, Bool, true, false, cond, ◌&&◌, eqb, ltb, ◌⊎◌, ◌↔◌, sym, refl, ap, ◌∙◌, inl, inr, arith}
+use Rattle.std.proofs.Common.{◌≡◌, ℕ, zero, suc, ◌<◌, Bool, true, cond, eqb, sym, refl, ◌∙◌, inl, inr, arith}
 use Rattle.std.proofs.lemmas.Bool.{ltb-true, lt-ltb, eqb-true, eq-eqb, and_parts, and_from, cond-true, cond-false}
-use Rattle.game.specs.Meaning.{Meaning, Part, digit}
-use Rattle.game.proofs.Bounded.{true_or_false, clash, one_more}
+use Rattle.game.specs.Meaning.{Part, digit}
+use Rattle.game.proofs.Bounded.{true_or_false, one_more}
 use Rattle.law.specs.Refusals.{all_below, fits_side}
 use Rattle.law.specs.Laws.{SidesAreParts}
 

@@ -1,26 +1,25 @@
 -- What the answers say. Assumes nothing.
-use Rattle.std.proofs.Common.{◌≡◌, ℕ, ◌<◌, Bool, true, false, cond, not, leb, ◌⊎◌, ◌↔◌, List, [], ◌∷◌, length, Some, None, Option, sym, refl, ap, ◌∙◌, subst, subst₂, inl, inr, arith}
+use Rattle.std.proofs.Common.{◌≡◌, ℕ, ◌<◌, Bool, true, false, not, ◌↔◌, length, Some, None, Option, sym, refl, ap, ◌∙◌, subst, subst₂, inl, inr, arith}
 use mathlib.Core.Path.{fun_ext}
 use Rattle.std.specs.List.{slice_get, AllByRecursion as All}
 use Rattle.std.proofs.lemmas.Bool.{not-false, leb-false}
 use Rattle.game.specs.Meaning.{Meaning, Lawful, member, GroupChoice}
-use Rattle.game.specs.Objectives.{Objective, States, ◌∈◌, ◌∉◌}
+use Rattle.game.specs.Objectives.{Objective, ◌∈◌, ◌∉◌}
 use Rattle.game.specs.Plays.{Ensures}
 use Rattle.game.specs.Sheets.{Sheet, IsSheet}
 use Rattle.game.proofs.Bounded.{true_or_false, clash}
 use Rattle.game.proofs.Strategy.{sheets_agree}
-use Rattle.game.specs.declared.goal.Goal.{Goal}
 use Rattle.game.specs.Goals.{group_of}
 use Rattle.game.specs.Formulas.{Aims, formula, Sat}
-use Rattle.law.specs.Worlds.{Plan, Model, Play, World, goal_at, aim, met, IsPlan, IsReply, with_replies}
+use Rattle.law.specs.Worlds.{Plan, Model, Play, World, goal_at, aim, met, with_replies}
 use Rattle.law.specs.Refusals.{Call, enter, settle, query, plan, move, reply, begin, announce, tell, end, strike, awaiting_move, awaiting_reply, granted_on, announcing, refusals, first}
 use Rattle.game.specs.declared.fault.Fault.{Fault}
 use Rattle.law.specs.Steps.{fault, Answer, number, done, told, entry, outcome, refused, idle, Announces, Tells, Ends, Does, Ruled, Step}
 use Rattle.law.specs.Logs.{accepted}
-use Rattle.law.specs.Laws.{Played, InPlay, Promise, EverySheet, Speaks}
+use Rattle.law.specs.Laws.{InPlay, Promise, EverySheet, Speaks}
 use Rattle.game.proofs.Spelling.{aims_group}
 use Rattle.law.proofs.Sides.{sides_are_parts}
-use Rattle.law.proofs.Kept.{Fit, Kept, aim_is, row_plan}
+use Rattle.law.proofs.Kept.{Kept, aim_is, row_plan}
 use Rattle.law.proofs.Calls.{Fails, passes, nth_all, granted_by, move_there}
 use Rattle.law.proofs.Journeys.{aims_unique}
 

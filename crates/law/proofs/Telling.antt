@@ -1,12 +1,12 @@
 -- The plays under way are as the calls and answers tell them. Assumes nothing.
-use Rattle.std.proofs.Common.{◌≡◌, ℕ, zero, suc, ◌+◌, ◌<◌, Bool, true, false, cond, List, [], ◌∷◌, ◌++◌, map, length, get_or, take, drop, set, Some, None, Option, sym, refl, ap, ◌∙◌, subst, ap₂, arith}
+use Rattle.std.proofs.Common.{◌≡◌, ℕ, zero, suc, false, List, [], ◌∷◌, ◌++◌, map, get_or, take, drop, set, Some, None, Option, sym, refl, ap, ◌∙◌, ap₂, arith}
 use Rattle.std.specs.List.{slice_get, remove}
 use Rattle.std.proofs.lemmas.List.{map_push, map-set, map-append, take-map, drop-map}
 use Rattle.game.specs.Meaning.{Meaning}
-use Rattle.law.specs.Worlds.{Plan, Turn, to_move, to_reply, Play, World, led}
-use Rattle.law.specs.Refusals.{Call, enter, settle, query, plan, move, reply, begin, announce, tell, end, strike, by_turn, awaiting_move, by_reply, awaiting_reply, refusals, first}
-use Rattle.law.specs.Steps.{Answer, number, done, told, entry, outcome, refused, idle, with_plays, begun, announced, answered, Announces, Tells, Ends, Does, Ruled, Step, Run, rest, goes}
-use Rattle.law.specs.Logs.{Log, accepted, choice_in, pending, fresh, said, replied, noted, logged, play_of}
+use Rattle.law.specs.Worlds.{Play, World}
+use Rattle.law.specs.Refusals.{Call, enter, settle, query, plan, move, reply, begin, announce, tell, end, strike, awaiting_move, awaiting_reply, refusals, first}
+use Rattle.law.specs.Steps.{Answer, begun, announced, answered, Announces, Tells, Ends, Does, Ruled, Step, Run, rest, goes}
+use Rattle.law.specs.Logs.{Log, accepted, pending, fresh, said, replied, noted, logged, play_of}
 use Rattle.law.proofs.Calls.{move_there, reply_there}
 
 nth_log : (M : Meaning) (ls : List Log) (i : ℕ) (q : Play) → slice_get (map (play_of M) ls) i ≡ Some q → q ≡ play_of M (get_or ls i (fresh 0))

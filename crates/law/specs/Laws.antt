@@ -1,17 +1,16 @@
 -- What stands after every list of calls. Assumes nothing.
-use Rattle.std.specs.Prelude.{◌≡◌, ℕ, suc, ◌+◌, ◌<◌, ◌≤◌, Bool, true, false, not, ◌↔◌, List, [], ◌∷◌, map, length, Some, None, Option}
+use Rattle.std.specs.Prelude.{◌≡◌, ℕ, suc, ◌+◌, ◌<◌, ◌≤◌, Bool, true, false, ◌↔◌, List, [], ◌∷◌, map, length, Some}
 use Rattle.std.specs.List.{slice_get, AllByRecursion as All}
 use Rattle.game.specs.Meaning.{Meaning, Lawful, Part, GroupChoice, Reply}
-use Rattle.game.specs.Objectives.{Objective, States, ◌∈◌, ◌∉◌}
+use Rattle.game.specs.Objectives.{Objective, ◌∈◌}
 use Rattle.game.specs.Plays.{Ensures, MetBy, FailedBy}
 use Rattle.game.specs.Sheets.{Sheet, IsSheet}
 use Rattle.game.specs.Theorems.{Right}
 use Rattle.boards.specs.Meaning.{Rows, Sound}
-use Rattle.game.specs.declared.goal.Goal.{Goal}
 use Rattle.game.specs.declared.goal.Goal.TheVariants.{Until as UNTIL}
 use Rattle.game.specs.Goals.{group_of}
 use Rattle.game.specs.Formulas.{Aims, over, formula, Sat}
-use Rattle.law.specs.Worlds.{Plan, Model, Turn, to_move, to_reply, Play, World, opened, goal_at, aim, met_by, met, led, IsPlan}
+use Rattle.law.specs.Worlds.{Plan, Model, to_reply, Play, World, opened, goal_at, aim, met_by, met, led, IsPlan}
 use Rattle.law.specs.Refusals.{Call, query, move, reply, announce, end, refusals, first, fits_side}
 use Rattle.game.specs.declared.fault.Fault.{Fault}
 use Rattle.law.specs.Steps.{fault, Answer, told, entry, outcome, refused, Step, Run}
