@@ -1,9 +1,9 @@
 -- What a reader keeps while it goes through the words of a file.
-use Rattle.std.proofs.Common.{◌≡◌, ℕ, ◌+◌, ◌<◌, false, List, [], ◌∷◌, ◌++◌, map, length, Ok, Err, vec_items, vec_len, sym, refl, ap, ◌∙◌, subst, append_assoc, append-nil, length-append}
+use Rattle.std.proofs.Common.{◌≡◌, ℕ, ◌+◌, ◌<◌, false, List, [], ◌∷◌, ◌++◌, map, length, Err, vec_items, vec_len, sym, refl, ap, ◌∙◌, subst, append_assoc, append-nil, length-append}
 use lib.ListN.{length-map}
 use Rattle.game.specs.declared.goal.Word.{Word}
 use Rattle.systems.specs.declared.agent.Agent.{Agent}
-use Rattle.procedure.specs.Texts.{Description, agent_text, label_text, agents_words, starts_words, labels_words, system_word, ended, body, written}
+use Rattle.procedure.specs.Texts.{agent_text, label_text, agents_words, starts_words, labels_words, system_word, ended, body, written}
 use Rattle.procedure.specs.Parts.{Part, Known, said, told, aimed, whole, Shown, known, sizes_at, product, wrong}
 use Rattle.procedure.specs.Faults.{Flawless, none, more, Faulty, Sound, fault_at, misfit, faulty}
 use Rattle.procedure.specs.Reader.{part, holds, Fresh, Ready, Taken, Took}

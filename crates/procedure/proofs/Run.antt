@@ -1,5 +1,5 @@
 -- What words fix for the next one, gone through from the first to the last.
-use Rattle.std.proofs.Common.{◌≡◌, ℕ, zero, suc, pred, ◌+◌, ◌/◌, ◌%◌, ◌<◌, Bool, true, false, cond, ◌&&◌, eqb, List, [], ◌∷◌, ◌++◌, map, length, sym, refl, ap, ◌∙◌, subst, append_assoc, append-nil, add-zero, add-suc, suc-add, zero-add, arith}
+use Rattle.std.proofs.Common.{◌≡◌, ℕ, zero, suc, pred, ◌+◌, ◌/◌, ◌%◌, ◌<◌, true, cond, eqb, List, [], ◌∷◌, ◌++◌, map, length, sym, refl, ap, ◌∙◌, subst, append_assoc, append-nil, add-zero, add-suc, suc-add, zero-add, arith}
 use Rattle.std.proofs.lemmas.Bool.{and_parts, eqb-true, eq-eqb, ne_eqb}
 use Rattle.game.specs.declared.goal.Word.{Word}
 use Rattle.systems.specs.First.{all_of}
@@ -8,8 +8,8 @@ use Rattle.systems.specs.declared.line.Condition.TheVariants.{Own, First, Action
 use Rattle.systems.specs.declared.line.LocalState.{LocalState}
 use Rattle.procedure.specs.Words.{w}
 use Rattle.procedure.specs.Kinds.{kind_of}
-use Rattle.procedure.specs.Texts.{RuleText, LabelText, AgentText, Description, condition_word, local_word, rule_word, rules_words, label_word, labels_words, protocol_words, agent_word, agents_words, start_word, starts_words, system_word, ended, body, written}
-use Rattle.procedure.specs.Parts.{Part, Aims, told, said, heads, ruled, begun, labelled, aimed}
+use Rattle.procedure.specs.Texts.{RuleText, LabelText, AgentText, condition_word, local_word, rule_word, rules_words, label_word, labels_words, protocol_words, agent_word, agents_words, start_word, starts_words}
+use Rattle.procedure.specs.Parts.{Part, Aims, told, heads, begun, labelled, aimed}
 use Rattle.procedure.specs.declared.kind.Kind.{Kind}
 use Rattle.procedure.specs.declared.kind.Kind.TheVariants as kind
 use Rattle.procedure.specs.declared.stage.Stage.{Stage}

@@ -1,11 +1,9 @@
 -- One record more.
-use Rattle.std.proofs.Common.{◌≡◌, ℕ, suc, ◌+◌, ◌*◌, ◌/◌, ◌%◌, ◌<◌, Bool, true, false, cond, ◌&&◌, eqb, ltb, List, [], ◌∷◌, ◌++◌, map, length, get_or, sym, refl, ap, ◌∙◌, subst, append_assoc, append-nil, add-zero, add-suc, suc-add, zero-add, arith}
+use Rattle.std.proofs.Common.{◌≡◌, ℕ, suc, ◌+◌, ◌*◌, ◌/◌, ◌%◌, ◌<◌, Bool, true, false, cond, ◌&&◌, eqb, ltb, List, [], ◌∷◌, ◌++◌, map, length, get_or, sym, refl, ap, ◌∙◌, append_assoc, append-nil, add-zero, add-suc, suc-add, zero-add, arith}
 use Rattle.std.proofs.lemmas.Nat.{div-mul-add, mod-mul-add}
 use Rattle.std.proofs.lemmas.List.{map-append, length_push}
 use Rattle.std.proofs.lemmas.Bool.{and_parts, eqb-true}
 use Rattle.game.specs.declared.goal.Word.{Word}
-use Rattle.systems.specs.declared.line.Condition.{Condition}
-use Rattle.systems.specs.declared.line.LocalState.{LocalState}
 use Rattle.procedure.specs.Words.{w}
 use Rattle.procedure.specs.Texts.{RuleText, LabelText, AgentText, condition_word, local_word, rule_word, rules_words, label_word, labels_words, protocol_words, agent_word, agents_words, start_word, system_word, ended}
 use Rattle.procedure.specs.Parts.{judged, system_fits, agent_fits, protocol_fits, line_fits, start_fits, want_fits, unnamed, crowded, miscounted}

@@ -1,5 +1,5 @@
 -- What words say, read from the last to the first.
-use Rattle.std.proofs.Common.{◌≡◌, ℕ, suc, ◌+◌, ◌*◌, ◌/◌, ◌%◌, true, cond, eqb, List, [], ◌∷◌, ◌++◌, map, length, sym, refl, ap, ◌∙◌, append-nil, arith}
+use Rattle.std.proofs.Common.{◌≡◌, ℕ, suc, ◌+◌, ◌*◌, ◌/◌, ◌%◌, cond, eqb, List, [], ◌∷◌, ◌++◌, map, length, sym, refl, ap, ◌∙◌, arith}
 use Rattle.std.proofs.lemmas.Bool.{and_parts, eqb-true}
 use Rattle.game.specs.declared.goal.Word.{Word}
 use Rattle.systems.specs.First.{all_of}
@@ -7,7 +7,7 @@ use Rattle.systems.specs.declared.line.Condition.{Condition}
 use Rattle.systems.specs.declared.line.Condition.TheVariants.{Own, First, Action}
 use Rattle.systems.specs.declared.line.LocalState.{LocalState}
 use Rattle.procedure.specs.Kinds.{kind_of}
-use Rattle.procedure.specs.Texts.{RuleText, LabelText, AgentText, Description, condition_word, local_word, rules_words, labels_words, protocol_words, agents_words, start_word, starts_words, ended, body, written}
+use Rattle.procedure.specs.Texts.{RuleText, LabelText, AgentText, Description, condition_word, local_word, rules_words, labels_words, protocol_words, agents_words, start_word, starts_words, body, written}
 use Rattle.procedure.specs.Parts.{Aims}
 use Rattle.procedure.specs.Laws.{OneReading}
 use Rattle.procedure.specs.declared.kind.Kind.{Kind}

@@ -8,7 +8,7 @@ use Rattle.procedure.specs.declared.reader.Reader.{Reader}
 use Rattle.procedure.specs.declared.stage.Stage.{Stage}
 use Rattle.procedure.specs.declared.stage.Stage.TheVariants as stage
 use Rattle.procedure.specs.declared.error.ReadError.{ReadError}
-use Rattle.procedure.specs.declared.error.ReadError.TheVariants.{Refused, Memory}
+use Rattle.procedure.specs.declared.error.ReadError.TheVariants.{Memory}
 
 pub taken_at : (s : Stage) (before : List Word) (x : Word) (number : ℕ) (r : Reader) → r.stage ≡ s → Taken s before x number r → Taken r.stage before x number r
 taken_at s before x number r at t = subst (λ v. Taken v before x number r) (sym at) t

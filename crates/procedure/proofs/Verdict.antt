@@ -1,5 +1,5 @@
 -- A file has one verdict.
-use Rattle.std.proofs.Common.{◌≡◌, ℕ, zero, suc, ◌+◌, ◌/◌, ◌%◌, ◌<◌, Bool, true, false, ◌⊎◌, List, [], ◌∷◌, ◌++◌, length, sym, refl, ap, ◌∙◌, subst, inl, inr, append-nil, arith, length-append}
+use Rattle.std.proofs.Common.{◌≡◌, ℕ, zero, suc, ◌/◌, ◌%◌, ◌<◌, ◌⊎◌, List, [], ◌∷◌, ◌++◌, length, sym, refl, ap, ◌∙◌, subst, inl, inr, append-nil, arith, length-append}
 use Rattle.std.proofs.lemmas.Bool.{both_ways}
 use Rattle.game.specs.declared.goal.Word.{Word}
 use Rattle.game.specs.declared.fault.Fault.{Fault}
@@ -8,7 +8,7 @@ use Rattle.procedure.specs.Kinds.{kind_of}
 use Rattle.procedure.specs.Texts.{Description, body, written}
 use Rattle.procedure.specs.Parts.{Part, Known, told, said, Shown, known, sizes_at, product, wrong_of, wrong}
 use Rattle.procedure.specs.Faults.{Flawless, none, more, Faulty, Amiss, Refusal, misfits, faulty, Accepted, misfit, fault_at}
-use Rattle.procedure.specs.Laws.{OneVerdict, OneVerdictEach}
+use Rattle.procedure.specs.Laws.{OneVerdictEach}
 use Rattle.procedure.specs.declared.kind.Kind.{Kind}
 use Rattle.procedure.specs.declared.kind.Kind.TheVariants as kind
 use Rattle.procedure.specs.declared.stage.Stage.{Stage}

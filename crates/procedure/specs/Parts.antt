@@ -4,7 +4,6 @@ use Rattle.game.specs.declared.goal.Word.{Word}
 use Rattle.systems.specs.First.{all_of}
 use Rattle.systems.specs.declared.line.Condition.{Condition}
 use Rattle.systems.specs.declared.line.LocalState.{LocalState}
-use Rattle.procedure.specs.Words.{w}
 use Rattle.procedure.specs.Kinds.{kind_of, number_of}
 use Rattle.procedure.specs.Texts.{RuleText, LabelText, AgentText, Description, condition_word, local_word, rule_word, rules_words, label_word, labels_words, protocol_words, agent_word, agents_words, starts_words, system_word, ended}
 use Rattle.procedure.specs.declared.kind.Kind.{Kind}

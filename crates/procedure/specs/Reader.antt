@@ -1,5 +1,5 @@
 -- What the reader holds. Assumes nothing.
-use Rattle.std.specs.Prelude.{◌≡◌, ℕ, ◌+◌, ◌<◌, ◌≤◌, true, ◌&&◌, ltb, List, [], ◌∷◌, ◌++◌, map, length, Ok, Err, vec_items, vec_len, Result, nat_lt}
+use Rattle.std.specs.Prelude.{◌≡◌, ℕ, ◌<◌, ◌≤◌, true, ◌&&◌, ltb, List, [], ◌∷◌, ◌++◌, map, Ok, Err, vec_items, vec_len, Result, nat_lt}
 use Rattle.game.specs.declared.goal.Word.{Word}
 use Rattle.systems.specs.First.{all_of}
 use Rattle.systems.specs.declared.line.Condition.{Condition}

@@ -1,4 +1,4 @@
-use Rattle.std.proofs.Common.{◌≡◌, List, vec_items, sym, refl, ◌∙◌, subst}
+use Rattle.std.proofs.Common.{List, vec_items, sym, refl, ◌∙◌, subst}
 use Rattle.game.specs.declared.goal.Word.{Word}
 use Rattle.procedure.specs.Texts.{described}
 use Rattle.procedure.specs.Faults.{Accepted}

@@ -1,9 +1,8 @@
-use Rattle.std.proofs.Common.{◌≡◌, List, [], ◌∷◌, Ok, Err, sym, ap, ◌∙◌, subst, zero-add, arith}
+use Rattle.std.proofs.Common.{List, Err, sym, subst, zero-add, arith}
 use Rattle.std.proofs.lemmas.Result.{err_from_is_err_and}
 use Rattle.game.specs.declared.goal.Word.{Word}
 use Rattle.procedure.specs.Words.{words}
 use Rattle.procedure.specs.Reading.{ReadWords}
-use Rattle.procedure.specs.declared.error.ReadError.{ReadError}
 use Rattle.procedure.proofs.Cut.{words_short}
 use Rattle.procedure.proofs.Going.{Going, going_fresh, going_more, going_refused, going_missing, going_done}
 use Rattle.procedure.proofs.reading.read_words.Goals as goal

@@ -1,4 +1,4 @@
-use Rattle.std.proofs.Common.{◌≡◌, ◌≤◌, length, sym, ap, ◌∙◌, arith, length-drop, ltb-false}
+use Rattle.std.proofs.Common.{◌≤◌, length, ap, arith, length-drop, ltb-false}
 use Rattle.std.proofs.lemmas.List.{take_rest}
 use Rattle.procedure.proofs.Cut.{words_cut}
 use Rattle.procedure.proofs.word.split_word.Goals as goal

@@ -1,11 +1,10 @@
-use Rattle.std.proofs.Common.{◌≡◌, ℕ, ◌+◌, List, [], ◌∷◌, ◌++◌, map, length, vec_items, vec_len, Vec, sym, refl, ap, ◌∙◌, subst, arith}
+use Rattle.std.proofs.Common.{◌≡◌, ℕ, [], ◌∷◌, ◌++◌, map, length, vec_items, vec_len, Vec, sym, refl, ap, ◌∙◌, arith}
 use lib.ListN.{length-map}
 use Rattle.std.proofs.lemmas.List.{map-append, length_push}
 use Rattle.std.specs.declared.alloc.Global.{Global}
 use Rattle.systems.specs.declared.agent.Agent.{Agent}
 use Rattle.systems.specs.declared.line.Rule.{Rule}
 use Rattle.procedure.specs.Texts.{AgentText, agent_text, rule_text, system_word}
-use Rattle.procedure.specs.Reader.{part}
 use Rattle.procedure.proofs.Says.{agent_done}
 use Rattle.procedure.proofs.reader.Reader.finish.Goals as goal
 

@@ -1,4 +1,4 @@
-use Rattle.std.proofs.Common.{◌≡◌, ℕ, ◌+◌, ◌-◌, ◌<◌, List, [], ◌∷◌, ◌++◌, map, length, vec_items, vec_len, sym, refl, ap, ◌∙◌, add-zero, arith, rules}
+use Rattle.std.proofs.Common.{◌≡◌, ◌+◌, ◌-◌, ◌∷◌, ◌++◌, map, length, vec_items, sym, ap, ◌∙◌, add-zero, arith, rules}
 use Rattle.procedure.specs.Texts.{local_word, label_word}
 use Rattle.procedure.specs.Parts.{judged, want_fits, unnamed, labelled}
 use Rattle.procedure.specs.Reader.{part}

@@ -1,4 +1,4 @@
-use Rattle.std.proofs.Common.{◌≡◌, vec_items, vec_len, sym, ap, ◌∙◌, subst, arith}
+use Rattle.std.proofs.Common.{vec_items, sym, ap, ◌∙◌, arith}
 use Rattle.procedure.specs.Parts.{product}
 use Rattle.procedure.proofs.Every.{product_agents}
 use Rattle.procedure.proofs.reader.Reader.procedure.Goals as goal

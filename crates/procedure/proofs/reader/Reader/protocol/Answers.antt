@@ -1,4 +1,4 @@
-use Rattle.std.proofs.Common.{◌≡◌, ℕ, ◌+◌, ◌<◌, true, ◌&&◌, ltb, List, [], ◌∷◌, ◌++◌, map, length, vec_items, vec_len, sym, refl, ap, ◌∙◌, subst, append-nil, arith, rules}
+use Rattle.std.proofs.Common.{◌≡◌, ℕ, ◌+◌, ◌<◌, true, ◌&&◌, ltb, List, ◌∷◌, ◌++◌, map, length, vec_items, vec_len, sym, ap, ◌∙◌, subst, append-nil, arith, rules}
 use Rattle.systems.specs.First.{all_of}
 use Rattle.procedure.specs.Texts.{agent_text, agent_word, protocol_words, rule_text, rules_words}
 use Rattle.procedure.specs.Parts.{judged, protocol_fits, heads}

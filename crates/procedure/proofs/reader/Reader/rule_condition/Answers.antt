@@ -1,4 +1,4 @@
-use Rattle.std.proofs.Common.{◌≡◌, ℕ, ◌+◌, ◌-◌, ◌<◌, List, [], ◌∷◌, ◌++◌, map, length, get_or, vec_items, vec_len, sym, refl, ap, ◌∙◌, subst, add-zero, arith, rules}
+use Rattle.std.proofs.Common.{◌≡◌, ◌+◌, ◌-◌, ◌∷◌, ◌++◌, map, length, get_or, vec_items, sym, ap, ◌∙◌, add-zero, arith, rules}
 use Rattle.std.proofs.lemmas.List.{length_push}
 use Rattle.systems.specs.declared.agent.Agent.{Agent}
 use Rattle.procedure.specs.Texts.{condition_word, rule_word}

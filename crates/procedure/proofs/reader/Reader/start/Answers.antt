@@ -1,4 +1,4 @@
-use Rattle.std.proofs.Common.{◌≡◌, ℕ, ◌+◌, ◌*◌, ◌<◌, true, ltb, List, vec_items, vec_len, sym, refl, ap, ◌∙◌, subst, arith, rules}
+use Rattle.std.proofs.Common.{◌≡◌, ℕ, ◌+◌, ◌*◌, ◌<◌, true, ltb, List, vec_items, vec_len, sym, subst, arith, rules}
 use Rattle.systems.specs.First.{all_of}
 use Rattle.procedure.specs.Parts.{judged, start_fits, heads}
 use Rattle.procedure.specs.Reader.{part}

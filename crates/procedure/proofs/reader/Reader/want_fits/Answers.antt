@@ -1,4 +1,4 @@
-use Rattle.std.proofs.Common.{◌≡◌, ◌≤◌, false, cond, length, vec_items, sym, arith}
+use Rattle.std.proofs.Common.{◌≤◌, length, vec_items, sym, arith}
 use Rattle.procedure.proofs.Every.{want_past}
 use Rattle.procedure.proofs.reader.Reader.want_fits.Goals as goal
 
