@@ -5,6 +5,8 @@ use Rattle.game.specs.Goals.{goal_of}
 use Rattle.game.specs.declared.fault.Fault.{Fault}
 use Rattle.game.specs.declared.goal.Goal.{Goal}
 use Rattle.game.specs.declared.goal.Word.{Word}
+use Rattle.game.specs.declared.system.System as system
+use Rattle.boards.specs.declared.board.Board as board
 use Rattle.boards.specs.Meaning.{Rows, Sound}
 use Rattle.plans.specs.Drawing.{granted_in, rank_in, choice_in}
 use Rattle.law.specs.Worlds.{Plan, Model, Play, World, opened, goal_at}
@@ -26,14 +28,14 @@ plan_of None = None
 plan_of (Some y) = Some (record { goal = y.goal; granted = granted_in (vec_items y.entries); rank = rank_in (vec_items y.entries); move = choice_in (vec_items y.entries) })
 
 -- A case, whatever its system and its board are made of.
-abbrev pub model : {S B : Type 0} → (B → Rows) → Case S B → Model
+abbrev pub model : {S B : Type 0} {gS : system.Ghosts S} {gB : board.Ghosts B} → (B → Rows) → Case S B gS gB → Model
 model shows x = record { goals = vec_items x.goals; settled = x.settled; plan = plan_of x.sheet; rows = shows x.board }
 
 -- The system of a case, and how many of its plays are under way.
-abbrev pub system_of : {S B : Type 0} → Case S B → S
+abbrev pub system_of : {S B : Type 0} {gS : system.Ghosts S} {gB : board.Ghosts B} → Case S B gS gB → S
 system_of x = x.system
 
-abbrev pub out_of : {S B : Type 0} → Case S B → ℕ
+abbrev pub out_of : {S B : Type 0} {gS : system.Ghosts S} {gB : board.Ghosts B} → Case S B gS gB → ℕ
 out_of x = x.out
 
 abbrev pub world : Model → List Play → World

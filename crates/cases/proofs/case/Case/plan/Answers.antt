@@ -7,10 +7,10 @@ use Rattle.cases.proofs.case.Case.plan.Goals as goal
 
 pub returns : goal.returns
 returns g c =
-    let h = c.in-ok-wanted.ensures in
+    let h = c.in_ok-wanted.ensures in
     let me = c.args.self.now in
-    let es = vec_items c.in-ok-entries.entries in
-    let drawn = subst (λ φ. DrawnFor (g.S.System.means me.system) (g.B.Board.shows me.board).marked φ es) h.0 c.in-ok-entries.ensures in
+    let es = vec_items c.in_ok-entries.entries in
+    let drawn = subst (λ φ. DrawnFor (g.S.System.means me.system) (g.B.Board.shows me.board).marked φ es) h.0 c.in_ok-entries.ensures in
     record {
       steps = λ qs e. step_does _ _ _ _ _ (h.3 qs e) (shown c.args.goal es, refl, is_plan _ (g.S.System.lawful me.system) (model g.B.Board.shows me) c.args.goal es h.1 drawn, refl, refl);
       same = refl;

@@ -30,21 +30,21 @@ returns g c qs e =
     let es = vec_items sheet.entries in
     let p = shown sheet.goal es in
     let plan : m.plan ≡ Some p = ap plan_of c.in-Some.is in
-    let slice = c.as-slice-entries.ensures.value in
-    let entry : c.entry-at-entry.result ≡ get_or es s blank = c.entry-at-entry.ensures ∙ ap (λ l. get_or l s blank) slice in
+    let slice = c.as_slice-entries.ensures.value in
+    let entry : c.entry_at-entry.result ≡ get_or es s blank = c.entry_at-entry.ensures ∙ ap (λ l. get_or l s blank) slice in
     let hs : s < M.states = omega (arith, c.if-state-states.false, c.states.ensures) in
     let out : granted_in es s ≡ false = ap (λ (x : Entry). x.granted) (sym entry) ∙ c.if-entry.false in
     let φ = goal_in (vec_items me.goals) sheet.goal in
     let aimed : aim m ≡ φ = ap (planned_goal m) plan in
-    let group : c.group-of.result ≡ group_of φ = c.group-of.ensures ∙ ap group_of c.goal-at-goal.ensures in
-    let fits : fits_side M (member (group_of φ)) s a ≡ true = ap (λ x. fits_side M (member x) s a) (sym group) ∙ sym c.is-choice.ensures ∙ c.if-not-is-choice.false in
-    let replies = subst₂ (λ ψ l. RepliesAs M R ψ l s a c.lowest.result) c.goal-at-goal.ensures slice c.lowest.ensures in
+    let group : c.group_of.result ≡ group_of φ = c.group_of.ensures ∙ ap group_of c.goal_at-goal.ensures in
+    let fits : fits_side M (member (group_of φ)) s a ≡ true = ap (λ x. fits_side M (member x) s a) (sym group) ∙ sym c.is_choice.ensures ∙ c.if-not-is_choice.false in
+    let replies = subst₂ (λ ψ l. RepliesAs M R ψ l s a c.lowest.result) c.goal_at-goal.ensures slice c.lowest.ensures in
     let owed : IsPlan M m p → IsReply M m p s a c.lowest.result = λ h.
     let ga : GroupChoice M h.group s a = subst (λ x. GroupChoice M x s a) (aims_group R φ h.group h.objective h.aims) ((sides_are_parts M (member (group_of φ)) s a).0 fits) in
     record { group = h.group; objective = h.objective; aims = h.aims; sheet = (h.sheet.0, h.sheet.1, replies h.group h.objective h.aims h.sheet.0 h.sheet.1 hs out ga) } in
     step_does _ _ _ _ _
     (first_none (refusals M (world m qs) (Reply s a)) (
-      sym c.is-unfit.ensures ∙ c.if-is-unfit.false,
+      sym c.is_unfit.ensures ∙ c.if-is_unfit.false,
       (
         ap no_sheet plan,
         (

@@ -10,14 +10,14 @@ sheeted : (o : Option Sheet) → is_some o ≡ true → no_sheet (plan_of o) ≡
 sheeted None e = sym e
 sheeted (Some x) e = refl
 
-pub returns-then-not-is-reply : goal.returns-then-not-is-reply
-returns-then-not-is-reply g c qs i start told at =
+pub returns-then-not-is_reply : goal.returns-then-not-is_reply
+returns-then-not-is_reply g c qs i start told at =
     let me = c.args.self.now in
     let M = g.S.System.means me.system in
     let t = c.args.play in
     let known : t.state < M.states = omega (arith, c.if-play-states.false, c.states.ensures) in (
-      tell_refused M (model g.B.Board.shows me) qs i c.args.reply start told t at (sym c.is-unfit.ensures ∙ c.if-is-unfit.false) (sheeted me.sheet (c.is-none.ensures ∙ ap not c.if-is-none.false)) known
-          (ap (λ x. fits_side M (λ k. not (member x k)) t.state c.args.reply) (sym c.group.ensures) ∙ sym c.is-reply.ensures ∙ c.if-not-is-reply.true) _ c.refusal-then-not-is-reply.ensures,
+      tell_refused M (model g.B.Board.shows me) qs i c.args.reply start told t at (sym c.is_unfit.ensures ∙ c.if-is_unfit.false) (sheeted me.sheet (c.is_none.ensures ∙ ap not c.if-is_none.false)) known
+          (ap (λ x. fits_side M (λ k. not (member x k)) t.state c.args.reply) (sym c.group.ensures) ∙ sym c.is_reply.ensures ∙ c.if-not-is_reply.true) _ c.refusal-then-not-is_reply.ensures,
       refl,
       refl,
       refl,
@@ -29,5 +29,5 @@ returns g c qs i start told at =
     let M = g.S.System.means me.system in
     let t = c.args.play in
     let known : t.state < M.states = omega (arith, c.if-play-states.false, c.states.ensures) in
-    tell_does M (model g.B.Board.shows me) qs i c.args.reply start told t at (sym c.is-unfit.ensures ∙ c.if-is-unfit.false) (sheeted me.sheet (c.is-none.ensures ∙ ap not c.if-is-none.false)) known
-    (ap (λ x. fits_side M (λ k. not (member x k)) t.state c.args.reply) (sym c.group.ensures) ∙ sym c.is-reply.ensures ∙ c.if-not-is-reply.false) c.land.result c.land.ensures
+    tell_does M (model g.B.Board.shows me) qs i c.args.reply start told t at (sym c.is_unfit.ensures ∙ c.if-is_unfit.false) (sheeted me.sheet (c.is_none.ensures ∙ ap not c.if-is_none.false)) known
+    (ap (λ x. fits_side M (λ k. not (member x k)) t.state c.args.reply) (sym c.group.ensures) ∙ sym c.is_reply.ensures ∙ c.if-not-is_reply.false) c.land.result c.land.ensures
