@@ -14,7 +14,7 @@ returns-then-i-len g c = record {
 
 pub returns : goal.returns
 returns g c = record {
-  served = turn_served _ _ (vec_items c.args.plays.now) _ c.args.i c.remove-taken.result _ (λ i. Announce i) _ (omega (arith, c.if-i-len.false, c.len.ensures, c.args.plays.now.ok.0)) c.remove-taken.ensures.value c.announce-play-answer.ensures (c.put-in.ensures.items ∙ ap (λ l. insert l c.args.i c.announce-play-answer.result.play) c.remove-taken.ensures.items);
-  counted = omega (arith, c.put-in.ensures.len, c.remove-taken.ensures.len);
-  room = omega (arith, c.requires.room, c.put-in.ensures.capacity, c.remove-taken.ensures.capacity);
+  served = turn_served _ _ (vec_items c.args.plays.now) _ c.args.i c.remove-taken.result _ (λ i. Announce i) _ (omega (arith, c.if-i-len.false, c.len.ensures, c.args.plays.now.ok.0)) c.remove-taken.ensures.value c.announce_play-answer.ensures (c.put_in.ensures.items ∙ ap (λ l. insert l c.args.i c.announce_play-answer.result.play) c.remove-taken.ensures.items);
+  counted = omega (arith, c.put_in.ensures.len, c.remove-taken.ensures.len);
+  room = omega (arith, c.requires.room, c.put_in.ensures.capacity, c.remove-taken.ensures.capacity);
 }

@@ -10,8 +10,8 @@ use Rattle.rehearsal.specs.Served.{Seated}
 use Rattle.rehearsal.proofs.Seating.{seated_length, seated_push, some_plays, begun_few}
 use Rattle.rehearsal.proofs.desk.serve_begin.Goals as goal
 
-pub push-reserved-requires : goal.push-reserved-requires
-push-reserved-requires g c =
+pub push_reserved-requires : goal.push_reserved-requires
+push_reserved-requires g c =
     let ts = vec_items c.args.plays.now in
     let (qs, h) = some_plays ts in
     let long : length qs ≡ out_of c.args.case.now = seated_length ts qs h ∙ sym c.args.plays.now.ok.0 ∙ sym c.requires.counted in
@@ -29,11 +29,11 @@ returns-in-Ok g c =
           let qs' = qs ++ moving c.args.state [] c.in-Ok.play ∷ [] in (
             qs',
             subst (λ m. Step M (world (model g.B.Board.shows c.args.case.now) qs) (Begin c.args.state) Done (world m qs')) (sym b.shows) (b.steps.0 qs long),
-            subst (λ l. Seated l qs') (sym c.push-reserved.ensures.items) (seated_push ts qs c.args.state [] (Move c.in-Ok.play) h),
+            subst (λ l. Seated l qs') (sym c.push_reserved.ensures.items) (seated_push ts qs c.args.state [] (Move c.in-Ok.play) h),
           );
       same = b.same;
-      counted = omega (arith, b.steps.1, c.requires.counted, c.push-reserved.ensures.len);
-      room = omega (arith, c.requires.room, c.push-reserved.ensures.capacity);
+      counted = omega (arith, b.steps.1, c.requires.counted, c.push_reserved.ensures.len);
+      room = omega (arith, c.requires.room, c.push_reserved.ensures.capacity);
     }
 
 pub returns-in-Err : goal.returns-in-Err

@@ -12,7 +12,7 @@ pub returns-then-i-len : goal.returns-then-i-len
 returns-then-i-len g c =
     let ts = vec_items c.args.plays.now in
     record {
-      served = λ qs h. (qs, c.end-nothing.ensures qs c.args.i (seated_length ts qs h ∙ sym c.args.plays.now.ok.0 ∙ sym c.len-then-i-len.ensures) (seated_past ts qs c.args.i h (omega (arith, c.if-i-len.true, c.len.ensures, c.args.plays.now.ok.0))), h);
+      served = λ qs h. (qs, c.end_nothing.ensures qs c.args.i (seated_length ts qs h ∙ sym c.args.plays.now.ok.0 ∙ sym c.len-then-i-len.ensures) (seated_past ts qs c.args.i h (omega (arith, c.if-i-len.true, c.len.ensures, c.args.plays.now.ok.0))), h);
       same = refl;
       counted = c.requires.counted;
       room = c.requires.room;
@@ -52,7 +52,7 @@ returns-in-Err g c =
     let (oq, oat, oown) = seated_nth ts os i c.remove-taken.result o less c.remove-taken.ensures.value in
     let kept = (b.steps os i oq.start oq.told (seated_length ts os o ∙ sym c.args.plays.now.ok.0 ∙ sym c.requires.counted) (oat ∙ ap (λ x. Some x) oown)).2 in
     let play = c.in-Err.back.play in
-    let items = c.put-in.ensures.items ∙ ap (λ l. insert l i play) c.remove-taken.ensures.items ∙ put_back ts i play less in
+    let items = c.put_in.ensures.items ∙ ap (λ l. insert l i play) c.remove-taken.ensures.items ∙ put_back ts i play less in
     record {
       served = λ qs h.
           let (q, at, own) = seated_nth ts qs i c.remove-taken.result h less c.remove-taken.ensures.value in
@@ -62,6 +62,6 @@ returns-in-Err g c =
             subst (λ l. Seated l qs) (sym items) (seated_swap ts qs i play q h at (same ∙ sym own)),
           );
       same = b.same;
-      counted = omega (arith, kept, c.requires.counted, c.put-in.ensures.len, c.remove-taken.ensures.len);
-      room = omega (arith, c.requires.room, c.put-in.ensures.capacity, c.remove-taken.ensures.capacity);
+      counted = omega (arith, kept, c.requires.counted, c.put_in.ensures.len, c.remove-taken.ensures.len);
+      room = omega (arith, c.requires.room, c.put_in.ensures.capacity, c.remove-taken.ensures.capacity);
     }

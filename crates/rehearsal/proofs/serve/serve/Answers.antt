@@ -4,14 +4,14 @@ use Rattle.cases.specs.Shows.{out_of}
 use Rattle.rehearsal.proofs.Seating.{seated_length}
 use Rattle.rehearsal.proofs.serve.serve.Goals as goal
 
-pub returns-in-default : goal.returns-in-default
-returns-in-default g c =
+pub returns-in_default : goal.returns-in_default
+returns-in_default g c =
     let ts = vec_items c.args.plays.now in
     record {
-      served = MatchResult-weaker c.serve-plain.result c.serve-plain.ensures.steps
+      served = MatchResult-weaker c.serve_plain.result c.serve_plain.ensures.steps
           (λ a calls qs h. (qs, calls qs (seated_length ts qs h ∙ sym c.args.plays.now.ok.0 ∙ sym c.requires.counted), h))
           (λ _ e. (e, refl));
-      same = c.serve-plain.ensures.same;
-      counted = c.serve-plain.ensures.out ∙ c.requires.counted;
+      same = c.serve_plain.ensures.same;
+      counted = c.serve_plain.ensures.out ∙ c.requires.counted;
       room = c.requires.room;
     }
