@@ -17,31 +17,31 @@ file_stops bytes (Refused f) h = refused_file f h
 file_stops bytes Memory h = no_memory
 
 pub returns-in-Err : goal.returns-in-Err
-returns-in-Err c = subst (λ (x : Stop). Verdict c.args.bytes.now (Err x)) (sym c.stop-of.ensures) (file_stops _ _ c.in-Err.ensures)
+returns-in-Err c = subst (λ (x : Stop). Verdict c.args.bytes.now (Err x)) (sym c.stop_of.ensures) (file_stops _ _ c.in-Err.ensures)
 
-pub overflow-sub-first-2 : goal.overflow-sub-first-2
-overflow-sub-first-2 c =
+pub overflow_sub-first-2 : goal.overflow_sub-first-2
+overflow_sub-first-2 c =
     let p = c.in-Ok.procedure in
     let room = goals_room c.args.bytes.now (described p.system (vec_items p.goals)) c.len.result c.in-Ok.ensures (c.len.ensures ∙ p.goals.ok.0) in
     omega (arith, room)
 
-pub returns-in-Ok-judge-system : goal.returns-in-Ok-judge-system
-returns-in-Ok-judge-system c =
+pub returns-in-Ok-judge_system : goal.returns-in-Ok-judge_system
+returns-in-Ok-judge_system c =
     let p = c.in-Ok.procedure in
-    judged p.system (vec_items p.goals) c.in-Ok.ensures c.in-Ok-judge-system.lines
-    (subst (λ (ws : List Word). Judges (agents_meaning p.system) (blank p.system.states 64) ws (Ok c.in-Ok-judge-system.lines)) c.as-slice.ensures.value c.in-Ok-judge-system.ensures)
+    judged p.system (vec_items p.goals) c.in-Ok.ensures c.in-Ok-judge_system.lines
+    (subst (λ (ws : List Word). Judges (agents_meaning p.system) (blank p.system.states 64) ws (Ok c.in-Ok-judge_system.lines)) c.as_slice.ensures.value c.in-Ok-judge_system.ensures)
 
 pub returns-in-Refusal : goal.returns-in-Refusal
 returns-in-Refusal c =
     let p = c.in-Ok.procedure in
     let many = c.len.ensures ∙ p.goals.ok.0 in
     let room = goals_room c.args.bytes.now (described p.system (vec_items p.goals)) c.len.result c.in-Ok.ensures many in
-    let says = subst (λ (x : Stop). Judges (agents_meaning p.system) (blank p.system.states 64) c.as-slice.result.now (Err x)) c.in-Refusal.is c.in-Err-judge-system.ensures in
+    let says = subst (λ (x : Stop). Judges (agents_meaning p.system) (blank p.system.states 64) c.as_slice.result.now (Err x)) c.in-Refusal.is c.in-Err-judge_system.ensures in
     refused_goal p.system (vec_items p.goals) _ (record {
       accepted = c.in-Ok.ensures;
       goal = c.in-Refusal.fault.place;
       place = omega (arith, room, many);
-      refused = subst (λ (ws : List Word). RefusedWord (agents_meaning p.system) (blank p.system.states 64) ws c.in-Refusal.fault) c.as-slice.ensures.value says;
+      refused = subst (λ (ws : List Word). RefusedWord (agents_meaning p.system) (blank p.system.states 64) ws c.in-Refusal.fault) c.as_slice.ensures.value says;
     })
 
 pub returns : goal.returns

@@ -11,7 +11,7 @@ sixty_four n some few = ap (blank n) (cond-true _ 64 0 (and_from _ _ (le-leb _ _
 pub returns : goal.returns
 returns g c =
     let law = g.S.System.lawful c.args.system.now in
-    let same = c.in-ok-table.ensures in
+    let same = c.in_ok-table.ensures in
     let size = c.states.ensures ∙ ap (λ (M : Meaning). M.states) same in
-    let shows = c.in-ok-board.ensures ∙ ap fresh size ∙ sixty_four _ law.some_state law.few_states in
+    let shows = c.in_ok-board.ensures ∙ ap fresh size ∙ sixty_four _ law.some_state law.few_states in
     subst₂ (λ (M : Meaning) (b : Rows). Judges M b c.args.words.now c.judge.result) same shows c.judge.ensures

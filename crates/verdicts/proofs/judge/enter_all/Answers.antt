@@ -4,7 +4,7 @@ use Rattle.verdicts.proofs.judge.enter_all.Goals as goal
 
 pub returns-in-Err : goal.returns-in-Err
 returns-in-Err g c = let h = c.loop-i.invariant in record {
-  steps = entering_refused _ _ _ _ c.loop-i.case.out _ _ _ _ h.0 c.loop-i-test.true c.word-in-word.ensures h.2 _ (ap g.S.System.means h.1) c.in-Err.ensures.steps;
+  steps = entering_refused _ _ _ _ c.loop-i.case.out _ _ _ _ h.0 c.loop-i-test.true c.word_in-word.ensures h.2 _ (ap g.S.System.means h.1) c.in-Err.ensures.steps;
   same = c.enter.ensures.same ∙ h.1;
   out = c.enter.ensures.out ∙ h.2;
 }
@@ -12,7 +12,7 @@ returns-in-Err g c = let h = c.loop-i.invariant in record {
 pub loop-i-preserved : goal.loop-i-preserved
 loop-i-preserved g c =
     let h = c.loop-i.invariant in
-    (entering_more _ _ _ _ _ c.loop-i.case.out _ _ _ h.0 c.loop-i-test.true c.word-in-word.ensures h.2 _ (ap g.S.System.means h.1) c.in-Ok.ensures.steps, c.enter.ensures.same ∙ h.1, c.enter.ensures.out ∙ h.2)
+    (entering_more _ _ _ _ _ c.loop-i.case.out _ _ _ h.0 c.loop-i-test.true c.word_in-word.ensures h.2 _ (ap g.S.System.means h.1) c.in-Ok.ensures.steps, c.enter.ensures.same ∙ h.1, c.enter.ensures.out ∙ h.2)
 
 pub returns : goal.returns
 returns g c = let h = c.loop-i.invariant in record {

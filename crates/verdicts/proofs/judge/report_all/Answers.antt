@@ -3,21 +3,21 @@ use Rattle.verdicts.proofs.Reporting.{has_line, lined_none, lined_more}
 use Rattle.verdicts.proofs.judge.report_all.Goals as goal
 
 pub loop-goal-init : goal.loop-goal-init
-loop-goal-init g c = let h = c.in-ok-lines.ensures in (lined_none _ _ _ h.items, h.capacity)
+loop-goal-init g c = let h = c.in_ok-lines.ensures in (lined_none _ _ _ h.items, h.capacity)
 
 pub loop-goal-preserved : goal.loop-goal-preserved
 loop-goal-preserved g c =
     let h = c.loop-goal.invariant in
-    (lined_more _ _ _ _ _ c.in-ok-line.line h.0 c.in-ok-line.ensures.1 c.push-reserved.ensures.items, omega (arith, h.1, c.push-reserved.ensures.capacity))
+    (lined_more _ _ _ _ _ c.in_ok-line.line h.0 c.in_ok-line.ensures.1 c.push_reserved.ensures.items, omega (arith, h.1, c.push_reserved.ensures.capacity))
 
-pub returns-in-err-line : goal.returns-in-err-line
-returns-in-err-line g c =
+pub returns-in_err-line : goal.returns-in_err-line
+returns-in_err-line g c =
     let me = c.args.case.now in
     absurd (has_line _ (g.S.System.lawful me.system) _ _ c.loop-goal.goal _ (c.requires.fit (omega (arith, c.loop-goal-test.true)))
-    (omega (arith, c.requires.many, c.loop-goal-test.true)) (omega (arith, c.requires.settled, c.loop-goal-test.true)) c.in-err-line.ensures)
+    (omega (arith, c.requires.many, c.loop-goal-test.true)) (omega (arith, c.requires.settled, c.loop-goal-test.true)) c.in_err-line.ensures)
 
-pub push-reserved-requires : goal.push-reserved-requires
-push-reserved-requires g c = let h = c.loop-goal.invariant in omega (arith, h.1, h.0.long, c.loop-goal.lines.ok.0, c.loop-goal-test.true)
+pub push_reserved-requires : goal.push_reserved-requires
+push_reserved-requires g c = let h = c.loop-goal.invariant in omega (arith, h.1, h.0.long, c.loop-goal.lines.ok.0, c.loop-goal-test.true)
 
 pub returns : goal.returns
 returns g c =
