@@ -1,5 +1,5 @@
 -- The lowest reply found is the sheet's. Assumes nothing.
-use Rattle.std.proofs.Common.{◌≡◌, ℕ, ◌-◌, ◌<◌, not, List, Option, unwrap_or, sym, refl, ap, ◌∙◌, subst, subst₂, inl, inr, arith}
+use Rattle.std.proofs.Common.{◌≡◌, ℕ, ◌-◌, ◌<◌, not, List, Option, unwrap_or, sym, refl, ap, subst, subst₂, inl, inr, arith}
 use Rattle.game.specs.Meaning.{Meaning, Lawful, GroupChoice}
 use Rattle.game.specs.Objectives.{Objective, nexttime, always, until, States, ◌∉◌}
 use Rattle.game.specs.Sheets.{IsSheet}

@@ -1,15 +1,15 @@
 -- Runs that grow by one call at their end. Assumes nothing.
-use Rattle.std.proofs.Common.{◌≡◌, ℕ, ◌+◌, ◌<◌, ◌≤◌, Bool, false, List, [], ◌∷◌, ◌++◌, length, get_or, take, sym, refl, ap, ◌∙◌, subst, arith, take_all}
+use Rattle.std.proofs.Common.{◌≡◌, ℕ, ◌+◌, ◌<◌, ◌≤◌, false, List, [], ◌∷◌, ◌++◌, length, get_or, take, sym, subst, arith, take_all}
 use Rattle.std.proofs.lemmas.List.{take_more}
 use Rattle.game.specs.Meaning.{Meaning}
-use Rattle.law.specs.Worlds.{Model, Play, World}
+use Rattle.law.specs.Worlds.{Model, World}
 use Rattle.law.specs.Refusals.{no_board}
 use Rattle.law.specs.Steps.{Step, Run, rest, goes}
 use Rattle.law.specs.declared.call.Call.{Call}
 use Rattle.law.specs.declared.call.Answer.{Answer}
 use Rattle.cases.specs.declared.outcome.Play.{Play as Token}
 use Rattle.cases.specs.Shows.{world}
-use Rattle.rehearsal.specs.Served.{Seated, Served, Ran}
+use Rattle.rehearsal.specs.Served.{Served, Ran}
 use Rattle.rehearsal.proofs.Seating.{seated_length, some_plays}
 use Rattle.rehearsal.proofs.Fitting.{step_fit}
 

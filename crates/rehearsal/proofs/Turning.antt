@@ -1,9 +1,9 @@
 -- A call on the play of a token is a step. Assumes nothing.
-use Rattle.std.proofs.Common.{◌≡◌, ℕ, zero, suc, List, [], ◌∷◌, set, Some, None, Ok, Err, sym, refl, ap, ◌∙◌, subst, arith}
+use Rattle.std.proofs.Common.{◌≡◌, ℕ, zero, suc, List, [], ◌∷◌, set, Some, None, Ok, Err, sym, refl, ap, ◌∙◌, subst}
 use Rattle.std.specs.List.{slice_get}
 use Rattle.game.specs.Meaning.{Meaning}
-use Rattle.law.specs.Worlds.{Model, Play, World, to_reply}
-use Rattle.law.specs.Refusals.{awaiting_move, awaiting_reply, announcing, telling, refusals, first}
+use Rattle.law.specs.Worlds.{Model, Play, to_reply}
+use Rattle.law.specs.Refusals.{awaiting_move, awaiting_reply, announcing, telling, first}
 use Rattle.law.specs.Steps.{Step, Announces as Announces', Tells as Tells'}
 use Rattle.law.specs.declared.call.Call.{Call}
 use Rattle.law.specs.declared.call.Call.TheVariants.{Announce, Tell}

@@ -103,7 +103,7 @@ mod tests {
         prints(&rt, heap, &[], "refused 1 W 0\n")?;
         for k in 1..24usize {
             let expected = format!(in heap; "refused 2 W {k}\n")?;
-            prints(&rt, heap, &VAN[0..k], expected.as_str()).note("a file cut short")?;
+            prints(&rt, heap, &VAN[0..k], expected.as_str())?;
         }
         let mut file = bytes_of(heap, &VAN)?;
         file.truncate(95);

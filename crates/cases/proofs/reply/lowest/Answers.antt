@@ -1,4 +1,4 @@
-use Rattle.std.proofs.Common.{◌-◌, unwrap_or, sym, ap, ◌∙◌, subst}
+use Rattle.std.proofs.Common.{◌-◌, sym, ap, ◌∙◌, subst}
 use Rattle.arenas.specs.declared.entry.Entry.{Entry}
 use Rattle.plans.specs.Drawing.{losing}
 use Rattle.plans.specs.Replying.{LowestInto}

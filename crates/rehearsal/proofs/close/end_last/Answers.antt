@@ -1,4 +1,4 @@
-use Rattle.std.proofs.Common.{◌≡◌, ◌-◌, ◌<◌, length, Some, vec_items, sym, ap, ◌∙◌, ap₂, arith}
+use Rattle.std.proofs.Common.{◌-◌, ◌<◌, length, Some, vec_items, sym, ap, ◌∙◌, ap₂, arith}
 use Rattle.law.specs.Refusals.{no_board}
 use Rattle.rehearsal.proofs.Seating.{seated_length, seated_nth, some_plays}
 use Rattle.rehearsal.proofs.Fitting.{never_refused}

@@ -1,5 +1,4 @@
-use Rattle.std.proofs.Common.{◌≡◌, List, [], ◌∷◌, ◌++◌, length, vec_items, sym, refl, ap, ◌∙◌, subst, arith}
-use Rattle.law.specs.Worlds.{Play}
+use Rattle.std.proofs.Common.{◌≡◌, [], ◌∷◌, ◌++◌, length, vec_items, sym, ◌∙◌, subst, arith}
 use Rattle.law.specs.Steps.{Step}
 use Rattle.law.specs.declared.call.Call.TheVariants.{Begin}
 use Rattle.law.specs.declared.call.Answer.TheVariants.{Done, Refused}

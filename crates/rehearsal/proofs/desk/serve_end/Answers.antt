@@ -1,9 +1,9 @@
-use Rattle.std.proofs.Common.{◌≡◌, ◌<◌, length, Some, vec_items, sym, refl, ap, ◌∙◌, subst, arith}
+use Rattle.std.proofs.Common.{◌<◌, length, Some, vec_items, sym, refl, ap, ◌∙◌, subst, arith}
 use Rattle.std.specs.List.{insert, remove}
 use Rattle.law.specs.Steps.{Step}
 use Rattle.law.specs.declared.call.Call.TheVariants.{End}
 use Rattle.law.specs.declared.call.Answer.TheVariants.{Outcome, Refused}
-use Rattle.cases.specs.Shows.{world, model, system_of, out_of}
+use Rattle.cases.specs.Shows.{world, model, system_of}
 use Rattle.rehearsal.specs.Served.{Seated}
 use Rattle.rehearsal.proofs.Seating.{seated_length, seated_nth, seated_past, seated_removed, seated_swap, some_plays, put_back}
 use Rattle.rehearsal.proofs.desk.serve_end.Goals as goal

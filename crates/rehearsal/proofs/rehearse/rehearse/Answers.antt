@@ -1,9 +1,8 @@
-use Rattle.std.proofs.Common.{[], vec_items, sym, subst₂}
+use Rattle.std.proofs.Common.{[], vec_items, subst₂}
 use Rattle.std.proofs.lemmas.Result.{IfOk-weaker}
-use Rattle.law.specs.Worlds.{opened}
 use Rattle.law.specs.Steps.{Run}
 use Rattle.law.proofs.Lawfully.{law_stands}
-use Rattle.cases.specs.Shows.{world, model}
+use Rattle.cases.specs.Shows.{world}
 use Rattle.rehearsal.proofs.rehearse.rehearse.Goals as goal
 
 pub returns-in-Ok : goal.returns-in-Ok

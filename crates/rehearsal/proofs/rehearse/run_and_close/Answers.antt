@@ -1,4 +1,4 @@
-use Rattle.std.proofs.Common.{[], vec_items, sym, subst}
+use Rattle.std.proofs.Common.{[], sym, subst}
 use Rattle.std.proofs.lemmas.Result.{IfOk-weaker}
 use Rattle.cases.specs.Shows.{world, model}
 use Rattle.rehearsal.specs.Served.{Seated}

@@ -1,6 +1,5 @@
-use Rattle.std.proofs.Common.{◌≡◌, length, vec_items, sym, refl, ◌∙◌}
+use Rattle.std.proofs.Common.{vec_items, sym, refl, ◌∙◌}
 use Rattle.std.proofs.lemmas.Result.{MatchResult-weaker}
-use Rattle.cases.specs.Shows.{out_of}
 use Rattle.rehearsal.proofs.Seating.{seated_length}
 use Rattle.rehearsal.proofs.serve.serve.Goals as goal
 

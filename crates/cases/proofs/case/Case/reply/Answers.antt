@@ -1,13 +1,12 @@
-use Rattle.std.proofs.Common.{◌≡◌, ◌<◌, Bool, true, false, not, get_or, Some, vec_items, sym, refl, ap, ◌∙◌, subst, subst₂, arith}
+use Rattle.std.proofs.Common.{◌≡◌, ◌<◌, true, false, not, get_or, Some, vec_items, sym, refl, ap, ◌∙◌, subst, subst₂, arith}
 use Rattle.std.proofs.lemmas.Bool.{lt-leb}
 use Rattle.game.specs.Meaning.{member, GroupChoice}
 use Rattle.game.specs.Goals.{goal_in, group_of}
-use Rattle.game.specs.declared.goal.Goal.{Goal}
 use Rattle.game.proofs.Spelling.{aims_group}
 use Rattle.arenas.specs.Notes.{blank}
 use Rattle.arenas.specs.declared.entry.Entry.{Entry}
-use Rattle.plans.specs.Drawing.{granted_in, rank_in}
-use Rattle.law.specs.Worlds.{Plan, planned_goal, aim, IsPlan, IsReply}
+use Rattle.plans.specs.Drawing.{granted_in}
+use Rattle.law.specs.Worlds.{planned_goal, aim, IsPlan, IsReply}
 use Rattle.law.specs.Refusals.{no_sheet, granted_on, fits_side, refusals}
 use Rattle.law.specs.declared.call.Call.TheVariants.{Reply}
 use Rattle.law.specs.declared.call.Answer.TheVariants.{Entry as Advised}

@@ -1,4 +1,4 @@
-use Rattle.std.proofs.Common.{◌+◌, vec_items, sym, refl, ap, ◌∙◌, subst, arith, rules}
+use Rattle.std.proofs.Common.{◌+◌, vec_items, refl, ap, ◌∙◌, subst, rules}
 use Rattle.game.specs.Objectives.{set_in}
 use Rattle.game.specs.Formulas.{GoalSet}
 use Rattle.boards.specs.Meaning.{Rows}

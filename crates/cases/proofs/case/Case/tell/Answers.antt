@@ -1,4 +1,4 @@
-use Rattle.std.proofs.Common.{◌≡◌, ◌<◌, Bool, true, false, not, is_some, Some, None, Option, sym, refl, ap, ◌∙◌, arith}
+use Rattle.std.proofs.Common.{◌≡◌, ◌<◌, true, false, not, is_some, Some, None, Option, sym, refl, ap, ◌∙◌, arith}
 use Rattle.game.specs.Meaning.{member}
 use Rattle.law.specs.Refusals.{no_sheet, fits_side}
 use Rattle.cases.specs.declared.sheet.Sheet.{Sheet}
