@@ -1,7 +1,6 @@
 // Procedure files as words, and what is printed of them.
 #![tactic(auto)]
 
-
 #[cfg(test)]
 mod tests {
     use cases::stop::Stop;
