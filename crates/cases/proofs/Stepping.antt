@@ -1,6 +1,6 @@
 -- A step from its table of refusals. Assumes nothing.
 use Rattle.std.proofs.Common.{◌≡◌, ℕ, Bool, false, List, [], ◌∷◌, Some, None, sym, refl, ap, ◌∙◌, subst}
-use Rattle.std.specs.List.{AllByRecursion as All}
+use Rattle.std.specs.List.{AllByRecursion}
 use Rattle.std.proofs.lemmas.Bool.{cond-false}
 use Rattle.game.specs.Meaning.{Meaning}
 use Rattle.game.specs.declared.fault.Fault.{Fault}
@@ -18,6 +18,6 @@ pub step_does : (M : Meaning) (w : World) (c : Call) (r : Answer) (w' : World) �
 step_does M w c r w' h d = record { is = subst (λ o. Ruled M w c o r w') (sym h) d }
 
 -- where every test of a list fails, no number is given
-pub first_none : (xs : List (ℕ × Bool)) → All (λ x. x.1 ≡ false) xs → first xs ≡ None
+pub first_none : (xs : List (ℕ × Bool)) → AllByRecursion (λ x. x.1 ≡ false) xs → first xs ≡ None
 first_none [] h = refl
 first_none (x ∷ xs) (e, h) = cond-false x.1 (Some x.0) (first xs) e ∙ first_none xs h

@@ -1,6 +1,6 @@
 -- Each call keeps what stands. Assumes nothing.
 use Rattle.std.proofs.Common.{◌≡◌, ℕ, zero, suc, ◌+◌, ◌<◌, Bool, true, false, cond, not, eqb, List, [], ◌∷◌, ◌++◌, length, take, drop, Some, None, Option, sym, refl, ap, ◌∙◌, subst, subst₂, inl, inr, arith, length-set}
-use Rattle.std.specs.List.{slice_get, AllByRecursion as All}
+use Rattle.std.specs.List.{slice_get, AllByRecursion}
 use Rattle.std.proofs.ByRecursion.{All-push, All-set, All-weaker, All-append, All-take, All-drop}
 use Rattle.std.proofs.lemmas.List.Edits.{length-remove}
 use Rattle.std.proofs.lemmas.List.{length_push, nil_from_length, get_or_append_left}
@@ -24,11 +24,11 @@ abbrev pub Fails : ℕ × Bool → Type 0
 Fails x = x.1 ≡ false
 
 -- no test of the list holds
-pub passes : (xs : List (ℕ × Bool)) → first xs ≡ None → All Fails xs
+pub passes : (xs : List (ℕ × Bool)) → first xs ≡ None → AllByRecursion Fails xs
 passes [] e = tt
 passes (x ∷ xs) e = go x.1 refl e (λ h. passes xs h)
   where
-    go : (b : Bool) → x.1 ≡ b → cond b (Some x.0) (first xs) ≡ None → (first xs ≡ None → All Fails xs) → (x.1 ≡ false) × All Fails xs
+    go : (b : Bool) → x.1 ≡ b → cond b (Some x.0) (first xs) ≡ None → (first xs ≡ None → AllByRecursion Fails xs) → (x.1 ≡ false) × AllByRecursion Fails xs
     go true t e rec = let z : ◌≡◌ {A = ℕ} 0 1 = cc in absurd (omega arith)
     go false t e rec = (t, rec e)
 
@@ -38,7 +38,7 @@ same_states M m e = eqb-true _ _ (not-false _ (or_parts _ _ e).1)
 pub no_plays : (qs : List Play) → not (eqb (length qs) 0) ≡ false → qs ≡ []
 no_plays qs e = nil_from_length qs (eqb-true _ _ (not-false _ e))
 
-pub nth_all : (P : Play → Type 0) (qs : List Play) (i : ℕ) (q : Play) → slice_get qs i ≡ Some q → All P qs → (i < length qs) × P q
+pub nth_all : (P : Play → Type 0) (qs : List Play) (i : ℕ) (q : Play) → slice_get qs i ≡ Some q → AllByRecursion P qs → (i < length qs) × P q
 nth_all P [] i q e h = let z : ◌≡◌ {A = ℕ} 0 1 = cc in absurd (omega arith)
 nth_all P (x ∷ qs) zero q e h = let same : x ≡ q = cc in (omega arith, subst P same h.0)
 nth_all P (x ∷ qs) (suc i) q e h = let r = nth_all P qs i q e h.1 in (omega (arith, r.0), r.1)
@@ -63,10 +63,10 @@ reply_there (Some x) q a e = turn x.turn refl e
         let sb : b ≡ a = ap (λ (y : Play × ℕ). y.1) same in
         (ap Some sx, sym (ap (λ (y : Play). y.turn) sx) ∙ et ∙ ap to_reply sb)
 
-move_all : (P : Play → Type 0) (qs : List Play) (i : ℕ) (q : Play) → awaiting_move (slice_get qs i) ≡ Some q → All P qs → P q
+move_all : (P : Play → Type 0) (qs : List Play) (i : ℕ) (q : Play) → awaiting_move (slice_get qs i) ≡ Some q → AllByRecursion P qs → P q
 move_all P qs i q e h = (nth_all P qs i q (move_there (slice_get qs i) q e) h).1
 
-reply_all : (P : Play → Type 0) (qs : List Play) (i : ℕ) (q : Play) (a : ℕ) → awaiting_reply (slice_get qs i) ≡ Some (q, a) → All P qs → P q × (q.turn ≡ to_reply a)
+reply_all : (P : Play → Type 0) (qs : List Play) (i : ℕ) (q : Play) (a : ℕ) → awaiting_reply (slice_get qs i) ≡ Some (q, a) → AllByRecursion P qs → P q × (q.turn ≡ to_reply a)
 reply_all P qs i q a e h = let r = reply_there (slice_get qs i) q a e in ((nth_all P qs i q r.0 h).1, r.1)
 
 never : (a : ℕ) → to_move ≡ to_reply a → ⊥
@@ -102,7 +102,7 @@ module _ (M : Meaning) (law : Lawful M) (m : Model) (fit : Fit M m) (p : Plan) (
             ),
       )
 
-begin_kept : (M : Meaning) (w : World) (s : ℕ) → All Fails (refusals M w (begin s)) → Kept M w → Kept M (with_plays w (w.plays ++ begun s ∷ []))
+begin_kept : (M : Meaning) (w : World) (s : ℕ) → AllByRecursion Fails (refusals M w (begin s)) → Kept M w → Kept M (with_plays w (w.plays ++ begun s ∷ []))
 begin_kept M w s t k =
     let m = w.model in
     let (p, e) = has_sheet m.plan t.1.0 in
@@ -126,7 +126,7 @@ begin_kept M w s t k =
     }
 
 announce_kept : (M : Meaning) → Lawful M → (w : World) (i : ℕ) (o : Option Play) → awaiting_move (slice_get w.plays i) ≡ o → (r : Answer) (w' : World) →
-    All Fails (announcing M w o) → Announces w i o r w' → Kept M w → Kept M w'
+    AllByRecursion Fails (announcing M w o) → Announces w i o r w' → Kept M w → Kept M w'
 announce_kept M law w i None e r w' t h k = subst (Kept M) (sym h.1) k
 announce_kept M law w i (Some q) e r w' t (p, ep, er, ew) k =
     let m = w.model in
@@ -150,7 +150,7 @@ announce_kept M law w i (Some q) e r w' t (p, ep, er, ew) k =
     })
 
 tell_kept : (M : Meaning) → Lawful M → (w : World) (i b : ℕ) (o : Option (Play × ℕ)) → awaiting_reply (slice_get w.plays i) ≡ o → (r : Answer) (w' : World) →
-    All Fails (telling M w o b) → Tells M w i b o r w' → Kept M w → Kept M w'
+    AllByRecursion Fails (telling M w o b) → Tells M w i b o r w' → Kept M w → Kept M w'
 tell_kept M law w i b None e r w' t h k = subst (Kept M) (sym h.1) k
 tell_kept M law w i b (Some x) e r w' t h k =
     let m = w.model in
@@ -200,9 +200,9 @@ end_kept M w i (Some q) e r w' h k =
 with_none : (M : Meaning) (w : World) (m : Model) → not (eqb (length w.plays) 0) ≡ false → Fit M m → Kept M (with_model w m)
 with_none M w m e fit =
     let z = no_plays w.plays e in
-    record { fit = fit; plays = subst (All (InPlay M m)) (sym z) tt; few = omega (arith, ap length z) }
+    record { fit = fit; plays = subst (AllByRecursion (InPlay M m)) (sym z) tt; few = omega (arith, ap length z) }
 
-does_kept : (M : Meaning) → Lawful M → (w : World) (c : Call) (r : Answer) (w' : World) → All Fails (refusals M w c) → Does M w c r w' → Kept M w → Kept M w'
+does_kept : (M : Meaning) → Lawful M → (w : World) (c : Call) (r : Answer) (w' : World) → AllByRecursion Fails (refusals M w c) → Does M w c r w' → Kept M w → Kept M w'
 does_kept M law w (enter x) r w' t h k =
     let m = w.model in
     let fit = fit_entered M m (goal_of x) (leb-false _ _ t.1.0) (not-false _ t.1.1.1.0) k.fit in
@@ -218,7 +218,7 @@ does_kept M law w settle r w' t h k =
     let row = settles M m w'.model same h.1 in
     record {
       fit = fit_settled M m w'.model k.fit row more same;
-      plays = subst (All (InPlay M w'.model)) (sym h.2) (All-weaker (InPlay M m) (InPlay M w'.model) (λ q. play_settled M m w'.model k.fit row q more) w.plays k.plays);
+      plays = subst (AllByRecursion (InPlay M w'.model)) (sym h.2) (All-weaker (InPlay M m) (InPlay M w'.model) (λ q. play_settled M m w'.model k.fit row q more) w.plays k.plays);
       few = omega (arith, ap length h.2, k.few);
     }
 does_kept M law w (query f s) r w' t h k = subst (Kept M) (sym h.1) k

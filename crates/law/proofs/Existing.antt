@@ -1,6 +1,6 @@
 -- Every list of calls has a run. Assumes nothing.
 use Rattle.std.proofs.Common.{◌≡◌, ℕ, ◌<◌, true, List, [], ◌∷◌, ◌++◌, length, set, Some, None, Option, refl}
-use Rattle.std.specs.List.{slice_get, remove, AllByRecursion as All}
+use Rattle.std.specs.List.{slice_get, remove, AllByRecursion}
 use Rattle.std.proofs.lemmas.Bool.{leb-false, not-false}
 use Rattle.game.specs.Meaning.{Meaning, Lawful}
 use Rattle.game.specs.Objectives.{Objective, nexttime, always, until, States}
@@ -51,7 +51,7 @@ plan_exists M law m f hf st =
       },
     )
 
-does_exist : (M : Meaning) → Lawful M → (w : World) (c : Call) → Kept M w → All Fails (refusals M w c) → Answered M w c
+does_exist : (M : Meaning) → Lawful M → (w : World) (c : Call) → Kept M w → AllByRecursion Fails (refusals M w c) → Answered M w c
 does_exist M law w (enter x) k t = (number (length w.model.goals), with_model w (entered w.model (goal_of x)), (refl, refl))
 does_exist M law w settle k t =
     let (P, set) = goals_have_sets M law w.model.rows.marked (goal_at w.model w.model.settled) in
@@ -69,7 +69,7 @@ does_exist M law w (reply s a) k t =
 does_exist M law w (begin s) k t = (done, with_plays w (w.plays ++ begun s ∷ []), (refl, refl))
 does_exist M law w (announce i) k t = go (awaiting_move (slice_get w.plays i)) t
   where
-    go : (o : Option Play) → All Fails (announcing M w o) → (r : Answer) × (w' : World) × Announces w i o r w'
+    go : (o : Option Play) → AllByRecursion Fails (announcing M w o) → (r : Answer) × (w' : World) × Announces w i o r w'
     go None t = (idle, w, (refl, refl))
     go (Some q) t =
         let (p, e) = has_sheet w.model.plan t.1.0 in

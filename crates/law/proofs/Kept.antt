@@ -3,7 +3,7 @@ use Rattle.std.proofs.Common.{◌≡◌, ℕ, suc, ◌<◌, ◌≤◌, Bool, tru
 use mathlib.Core.Path.{fun_ext}
 use Rattle.std.proofs.lemmas.Bool.{cases_eq, cases_lt, ltb-true, lt-ltb, eq-eqb, ne_eqb, cond-true, cond-false, and_from, both_ways}
 use Rattle.std.proofs.lemmas.List.{get_or_append_left, get_or_at, get_or-take, length-take, length_push}
-use Rattle.std.specs.List.{AllByRecursion as All}
+use Rattle.std.specs.List.{AllByRecursion}
 use Rattle.game.specs.Meaning.{Meaning}
 use Rattle.game.specs.Objectives.{Objective, States, ◌∈◌, ◌∉◌, IsSetOf}
 use Rattle.game.specs.Sheets.{IsSheet}
@@ -99,7 +99,7 @@ settles M m m' same (P, set, e) = subst (Settles M m) (sym e) (record {
 
 pub record Kept (M : Meaning) (w : World) : Type 0 where
   pub fit : Fit M w.model
-  pub plays : All (InPlay M w.model) w.plays
+  pub plays : AllByRecursion (InPlay M w.model) w.plays
   pub few : length w.plays ≤ 8
 
 pub aim_is : (m : Model) (p : Plan) → m.plan ≡ Some p → aim m ≡ goal_at m p.goal

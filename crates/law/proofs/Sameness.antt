@@ -1,7 +1,7 @@
 -- Two runs of the same calls have the same answers. Assumes nothing.
 use Rattle.std.proofs.Common.{◌≡◌, ℕ, suc, ◌<◌, ◌≤◌, min, Bool, true, false, cond, not, ◌||◌, eqb, ltb, leb, ◌↔◌, List, [], ◌∷◌, ◌++◌, length, get_or, take, set, Some, None, Option, sym, refl, ap, ◌∙◌, subst, ap₂, subst₂, inl, inr, arith}
 use mathlib.Core.Path.{fun_ext}
-use Rattle.std.specs.List.{slice_get, remove, AllByRecursion as All}
+use Rattle.std.specs.List.{slice_get, remove, AllByRecursion}
 use Rattle.std.proofs.lemmas.Bool.{cases_eq, cases_lt, not-false, leb-false}
 use Rattle.game.specs.Meaning.{Meaning, Lawful, member, GroupChoice}
 use Rattle.game.specs.Objectives.{States, ◌∈◌, ◌∉◌, IsSetOf}
@@ -226,7 +226,7 @@ module _ (M : Meaning) (law : Lawful M) (w v : World) (h : Same M w v) (k : Kept
       (plan_same M v.model w.model q j low (goal_same M w v h k q.goal) (early_v q.goal low) (λ c hc. h.marks c (omega arith)))
       (ep ∙ sym eq)
 
-  announce_same : (i : ℕ) (o : Option Play) (r r' : Answer) (w' v' : World) → All Fails (announcing M w o) → Announces w i o r w' → Announces v i o r' v' → (r ≡ r') × Same M w' v'
+  announce_same : (i : ℕ) (o : Option Play) (r r' : Answer) (w' v' : World) → AllByRecursion Fails (announcing M w o) → Announces w i o r w' → Announces v i o r' v' → (r ≡ r') × Same M w' v'
   announce_same i None r r' w' v' t (er, ew) (er', ev) = (er ∙ sym er', subst₂ (Same M) (sym ew) (sym ev) h)
   announce_same i (Some q) r r' w' v' t (p, ep, er, ew) (p', ep', er', ev) =
       let sp = both_some M w.model.plan v.model.plan p p' ep ep' h.plans in
@@ -247,7 +247,7 @@ module _ (M : Meaning) (law : Lawful M) (w v : World) (h : Same M w v) (k : Kept
   end_same i (Some q) r r' w' v' (er, ew) (er', ev) =
       (er ∙ ap (outcome q.steps) (met_equal M w v h k q.state q.steps) ∙ sym er', subst₂ (Same M) (sym ew) (sym ev) (with_same _ _ (ap (λ qs. remove qs i) h.plays)))
 
-  does_same : (c : Call) (r r' : Answer) (w' v' : World) → All Fails (refusals M w c) → Does M w c r w' → Does M v c r' v' → (r ≡ r') × Same M w' v'
+  does_same : (c : Call) (r r' : Answer) (w' v' : World) → AllByRecursion Fails (refusals M w c) → Does M w c r w' → Does M v c r' v' → (r ≡ r') × Same M w' v'
   does_same (enter x) r r' w' v' t (er, ew) (er', ev) = (
     er ∙ ap (λ gs. number (length gs)) h.goals ∙ sym er',
     subst₂ (Same M) (sym ew) (sym ev) (record {

@@ -1,7 +1,7 @@
 -- What the answers say. Assumes nothing.
 use Rattle.std.proofs.Common.{◌≡◌, ℕ, ◌<◌, Bool, true, false, not, ◌↔◌, length, Some, None, Option, sym, refl, ap, ◌∙◌, subst, subst₂, inl, inr, arith}
 use mathlib.Core.Path.{fun_ext}
-use Rattle.std.specs.List.{slice_get, AllByRecursion as All}
+use Rattle.std.specs.List.{slice_get, AllByRecursion}
 use Rattle.std.proofs.lemmas.Bool.{not-false, leb-false}
 use Rattle.game.specs.Meaning.{Meaning, Lawful, member, GroupChoice}
 use Rattle.game.specs.Objectives.{Objective, ◌∈◌, ◌∉◌}
@@ -24,10 +24,10 @@ use Rattle.law.proofs.Calls.{Fails, passes, nth_all, granted_by, move_there}
 use Rattle.law.proofs.Journeys.{aims_unique}
 
 -- a call that was not refused passed its tests and did what it does
-did : (M : Meaning) (w : World) (c : Call) (r : Answer) (w' : World) → Step M w c r w' → accepted r ≡ true → Does M w c r w' × All Fails (refusals M w c)
+did : (M : Meaning) (w : World) (c : Call) (r : Answer) (w' : World) → Step M w c r w' → accepted r ≡ true → Does M w c r w' × AllByRecursion Fails (refusals M w c)
 did M w c r w' step ok = go (first (refusals M w c)) refl step.is
   where
-    go : (o : Option ℕ) → first (refusals M w c) ≡ o → Ruled M w c o r w' → Does M w c r w' × All Fails (refusals M w c)
+    go : (o : Option ℕ) → first (refusals M w c) ≡ o → Ruled M w c o r w' → Does M w c r w' × AllByRecursion Fails (refusals M w c)
     go (Some n) e h = absurd (clash ok (ap accepted h.0))
     go None e h = (h, passes (refusals M w c) e)
 
@@ -122,7 +122,7 @@ module _ (M : Meaning) (law : Lawful M) (w : World) (w' : World) (k : Kept M w) 
   of_announce : (i n a : ℕ) → Step M w (announce i) (entry n a) w' → (q : Play) × (slice_get w.plays i ≡ Some q) × EverySheet M w.model (λ S. (n ≡ S.rank q.state) × (a ≡ S.move q.state))
   of_announce i n a step = let (d, t) = did M w (announce i) (entry n a) w' step refl in go (awaiting_move (slice_get w.plays i)) refl d t
     where
-      go : (o : Option Play) → awaiting_move (slice_get w.plays i) ≡ o → Announces w i o (entry n a) w' → All Fails (announcing M w o) →
+      go : (o : Option Play) → awaiting_move (slice_get w.plays i) ≡ o → Announces w i o (entry n a) w' → AllByRecursion Fails (announcing M w o) →
           (q : Play) × (slice_get w.plays i ≡ Some q) × EverySheet M w.model (λ S. (n ≡ S.rank q.state) × (a ≡ S.move q.state))
       go None e (er, ew) t = let z : ◌≡◌ {A = ℕ} 0 1 = cc in absurd (omega arith)
       go (Some q) e (p, ep, er, ew) t =

@@ -1,6 +1,6 @@
 -- What stands after every list of calls. Assumes nothing.
 use Rattle.std.specs.Prelude.{◌≡◌, ℕ, suc, ◌+◌, ◌<◌, ◌≤◌, Bool, true, false, ◌↔◌, List, [], ◌∷◌, map, length, Some}
-use Rattle.std.specs.List.{slice_get, AllByRecursion as All}
+use Rattle.std.specs.List.{slice_get, AllByRecursion}
 use Rattle.game.specs.Meaning.{Meaning, Lawful, Part, GroupChoice, Reply}
 use Rattle.game.specs.Objectives.{Objective, ◌∈◌}
 use Rattle.game.specs.Plays.{Ensures, MetBy, FailedBy}
@@ -60,8 +60,8 @@ pub record Promise (M : Meaning) (w : World) : Type 0 where
       (s : ℕ) → s < M.states → (s ∈ w.model.rows.marked f ↔ Ensures M g φ s) × ((S : Sheet) → IsSheet M g φ (w.model.rows.marked f) S → Right M g φ (w.model.rows.marked f) S s)
   -- the sheet is the table's, of a settled X, G or U
   pub sheet : (p : Plan) → w.model.plan ≡ Some p → IsPlan M w.model p
-  pub plays : All (InPlay M w.model) w.plays
-  pub meetings : All (Meeting M w.model) w.plays
+  pub plays : AllByRecursion (InPlay M w.model) w.plays
+  pub meetings : AllByRecursion (Meeting M w.model) w.plays
   pub few : length w.plays ≤ 8
   pub counted : (w.model.settled ≤ length w.model.goals) × (length w.model.goals ≤ w.model.rows.rows)
   pub sound : Sound w.model.rows

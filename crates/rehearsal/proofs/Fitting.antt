@@ -1,6 +1,6 @@
 -- Plays are under way only where the board fits the system. Assumes nothing.
 use Rattle.std.proofs.Common.{◌≡◌, ℕ, ◌<◌, true, false, not, ◌||◌, eqb, List, length, Some, None, Option, sym, refl, ap, ◌∙◌, subst, ap₂, inl, inr, arith}
-use Rattle.std.specs.List.{slice_get, AllByRecursion as All}
+use Rattle.std.specs.List.{slice_get, AllByRecursion}
 use Rattle.std.proofs.lemmas.Bool.{eqb-true}
 use Rattle.game.specs.Meaning.{Meaning}
 use Rattle.game.specs.declared.fault.Fault.{Fault}
@@ -49,7 +49,7 @@ does_sized M w (End i) r w' d = go (slice_get w.plays i) d
 does_sized M w (Strike k) r w' (er, ew) = sized w w' _ ew (refl, refl)
 
 -- on a board that does not fit, a call that is not refused does nothing
-unfit_same : (M : Meaning) (w : World) (c : Call) (r : Answer) (w' : World) → no_board M w.model ≡ true → All Fails (refusals M w c) → Does M w c r w' → w' ≡ w
+unfit_same : (M : Meaning) (w : World) (c : Call) (r : Answer) (w' : World) → no_board M w.model ≡ true → AllByRecursion Fails (refusals M w c) → Does M w c r w' → w' ≡ w
 unfit_same M w (Enter x) r w' bad t d = absurd (clash bad t.0)
 unfit_same M w Settle r w' bad t d = absurd (clash bad t.0)
 unfit_same M w (Query f s) r w' bad t d = absurd (clash bad t.0)
@@ -59,12 +59,12 @@ unfit_same M w (Reply s a) r w' bad t d = absurd (clash bad t.0)
 unfit_same M w (Begin s) r w' bad t d = absurd (clash bad t.0)
 unfit_same M w (Announce i) r w' bad t d = go (awaiting_move (slice_get w.plays i)) t d
   where
-    go : (o : Option Play) → All Fails (announcing M w o) → Announces w i o r w' → w' ≡ w
+    go : (o : Option Play) → AllByRecursion Fails (announcing M w o) → Announces w i o r w' → w' ≡ w
     go None t (er, ew) = ew
     go (Some q) t d = absurd (clash bad t.0)
 unfit_same M w (Tell i b) r w' bad t d = go (awaiting_reply (slice_get w.plays i)) t d
   where
-    go : (o : Option (Play × ℕ)) → All Fails (telling M w o b) → Tells M w i b o r w' → w' ≡ w
+    go : (o : Option (Play × ℕ)) → AllByRecursion Fails (telling M w o b) → Tells M w i b o r w' → w' ≡ w
     go None t (er, ew) = ew
     go (Some x) t d = absurd (clash bad t.0)
 unfit_same M w (End i) r w' bad t d = absurd (clash bad t.0)

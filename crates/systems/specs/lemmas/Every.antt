@@ -2,13 +2,13 @@
 use Rattle.std.specs.Prelude.{◌≡◌, ℕ, zero, suc, ◌<◌, Bool, true, false, List, [], ◌∷◌, length, slice_index_or, refl}
 use Rattle.std.proofs.Common.{subst, le_of_suc-le-suc, not-suc-le-zero}
 use Rattle.std.proofs.lemmas.List.{get_or_default}
-use Rattle.std.specs.List.{AllWithin, HoldsAt, AllByRecursion as All}
+use Rattle.std.specs.List.{AllWithin, HoldsAt, AllByRecursion}
 use Rattle.std.proofs.ByRecursion.{all_from_every}
 use Rattle.std.proofs.lemmas.Bool.{and_from, and_left, and_right, and_parts, or_parts}
 use Rattle.systems.specs.First.{all_of, some_of}
 
 module _ {X : Type 0} (p : X → Bool) where
-  from_all : (xs : List X) → All (λ x. p x ≡ true) xs → all_of p xs ≡ true
+  from_all : (xs : List X) → AllByRecursion (λ x. p x ≡ true) xs → all_of p xs ≡ true
   from_all [] h = refl
   from_all (x ∷ xs) h = and_from (p x) (all_of p xs) h.0 (from_all xs h.1)
 
