@@ -16,6 +16,7 @@ EDGE = r"\s(){}\[\].;,:@«»`"
 HEAD = re.compile(r"^(?:abbrev |unfoldable |private |irreducible )*(?:pub )?(?:abbrev |unfoldable |data |record |open )*([^\s:(){},]+)(?= *[({:]| :|$| where)")
 INNER = re.compile(r"^ +(?:abbrev |unfoldable )?(?:pub )?([^\s:(){},]+) :")
 LIBRARY = re.compile(r"^ *(?:ghost )?use (?:Rattle\.std\.|(?!Rattle)\w+\.)[\w.]*\{([^}]*)\}", re.M)
+ALIAS = re.compile(r"^ *(?:ghost )?use Rattle\.(?!std\.)[\w.]*\{([^}]*)\}", re.M)
 SKIP = (" ", "--", "use", "infix", "pub use", "mod", "pub mod")
 # Names with a dash that the toolchain's script turned already: in pages they are turned here.
 MADE = re.compile(r"[a-z][a-z-]*-[a-z-]*$")
@@ -38,8 +39,15 @@ def text_of(path):
         return f.read()
 
 
+def aliases(text):
+    """The names under which a file takes another file's."""
+    for line in ALIAS.findall(text):
+        yield from (w.split(" as ")[1].strip() for w in line.split(",") if " as " in w)
+
+
 def declared(text):
-    """The names that a file of specs/ or proofs/ declares, but for the answers to goals."""
+    """The names that a file of specs/ or proofs/ declares, but for the answers to goals, and its names for another file's."""
+    yield from aliases(text)
     for line in text.split("\n"):
         if line and not line.startswith(SKIP):
             m = HEAD.match(line)
@@ -82,8 +90,9 @@ def turn_code(text, names, pattern, comment):
 def main():
     dry = "--dry" in sys.argv
     all_names, own = set(), set()
-    for path in files("crates", ".antt"):
-        for name in declared(text_of(path)):
+    for path in files("crates", (".antt", ".rt")):
+        text = text_of(path)
+        for name in declared(text) if path.endswith(".antt") else aliases(text):
             all_names.add(name)
             if "-" in name.strip("-"):
                 own.add(name)

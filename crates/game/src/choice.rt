@@ -1,10 +1,10 @@
 // Choices, one number for the actions of all agents.
 ghost use Rattle.std.specs.Prelude.{◌≡◌, slice_index};
-ghost use Rattle.game.specs.Meaning.{choice as sum_of, actions as actions-of, member};
+ghost use Rattle.game.specs.Meaning.{choice as sum_of, actions as actions_of, member};
 
 // The actions of six agents in a choice.
 pub fn unpack(choice: usize) -> [u8; 6]
-    ensures { result ≡ actions-of choice }
+    ensures { result ≡ actions_of choice }
 {
     [
         (choice % 4) as u8,

@@ -1,6 +1,6 @@
 // Goals and their words, and what a goal asks of its operands and of the system.
 ghost use Rattle.std.specs.Prelude.{◌≡◌, ◌^◌, nat_lt};
-ghost use Rattle.game.specs.Goals.{word_of, goal_of, same_word, earlier, group as group-known, some_group, known as goal-known, strategic as is-strategic, group_of};
+ghost use Rattle.game.specs.Goals.{word_of, goal_of, same_word, earlier, group as group_known, some_group, known as goal_known, strategic as is_strategic, group_of};
 
 use game::goal::{Goal, Word};
 use game::system::System;
@@ -95,7 +95,7 @@ pub fn is_earlier(n: usize, goal: Goal) -> bool
 
 // Whether a group has only known agents.
 fn is_group<S: System>(system: &S, group: u8) -> bool
-    ensures { result ≡ group-known (S.System.means system.now) group }
+    ensures { result ≡ group_known (S.System.means system.now) group }
 {
     (group as usize) < 1 << system.agents()
 }
@@ -108,7 +108,7 @@ fn is_some_group<S: System>(system: &S, group: u8) -> bool
 
 // Whether the system has the atom or the agents of a goal.
 pub fn is_known<S: System>(system: &S, goal: Goal) -> bool
-    ensures { result ≡ goal-known (S.System.means system.now) goal }
+    ensures { result ≡ goal_known (S.System.means system.now) goal }
 {
     match goal {
         Goal::True => true,
@@ -127,7 +127,7 @@ pub fn is_known<S: System>(system: &S, goal: Goal) -> bool
 
 // Whether the goal is X, G or U.
 pub fn is_strategic(goal: Goal) -> bool
-    ensures { result ≡ is-strategic goal }
+    ensures { result ≡ is_strategic goal }
 {
     match goal {
         Goal::True => false,

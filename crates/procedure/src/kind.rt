@@ -1,6 +1,6 @@
 // The kinds of words.
 ghost use Rattle.std.specs.Prelude.{◌≡◌};
-ghost use Rattle.procedure.specs.Kinds.{kind_of as kind-by, Names};
+ghost use Rattle.procedure.specs.Kinds.{kind_of as kind_by, Names};
 
 #[derive(Clone, Copy)]
 pub enum Kind {
@@ -17,7 +17,7 @@ pub enum Kind {
 }
 
 pub(crate) fn kind_of(number: u8) -> Kind
-    ensures is { result ≡ kind-by number }
+    ensures is { result ≡ kind_by number }
     ensures names { Names result number }
 {
     match number {

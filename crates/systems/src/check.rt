@@ -1,7 +1,7 @@
 // Which lists make a listed game.
 ghost use Rattle.std.specs.Prelude.{◌≡◌, ◌<◌, true};
 ghost use Rattle.systems.specs.First.{First as FirstOf, some_of};
-ghost use Rattle.systems.specs.Lists.{shaped as well-shaped, bad_mask, bad_mark, bad_move, begins, Checked};
+ghost use Rattle.systems.specs.Lists.{shaped as well_shaped, bad_mask, bad_mark, bad_move, begins, Checked};
 
 use crate::line::MoveLine;
 use crate::lists::Lists;
@@ -51,7 +51,7 @@ pub fn check(lists: &Lists<'_>) -> Result<(), Fault>
 
 // Whether the numbers are in range, and the lists as long as these ask.
 fn shaped(lists: &Lists<'_>) -> bool
-    ensures { result ≡ well-shaped lists.now }
+    ensures { result ≡ well_shaped lists.now }
 {
     if lists.agents < 1 || lists.agents > 6 {
         return false;

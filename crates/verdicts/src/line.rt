@@ -1,6 +1,6 @@
 // The line of a goal.
 ghost use Rattle.std.specs.Prelude.{◌≡◌, Some};
-ghost use Rattle.verdicts.specs.Texts.{line_text, answer as answer-of};
+ghost use Rattle.verdicts.specs.Texts.{line_text, answer as answer_of};
 
 use std::fmt;
 
@@ -26,7 +26,7 @@ impl fmt::Display for Line {
 }
 
 fn answer(all: bool) -> &'static str
-    ensures { result.now ≡ answer-of all }
+    ensures { result.now ≡ answer_of all }
 {
     if all { "yes" } else { "no" }
 }

@@ -1,6 +1,6 @@
 // What is printed of a refusal.
 ghost use Rattle.std.specs.Prelude.{◌≡◌, Some};
-ghost use Rattle.verdicts.specs.Texts.{refusal_text, letter as letter-of};
+ghost use Rattle.verdicts.specs.Texts.{refusal_text, letter as letter_of};
 
 use game::fault::{Fault, Layer};
 use std::fmt;
@@ -21,7 +21,7 @@ impl fmt::Display for Refusal {
 }
 
 fn letter(layer: Layer) -> &'static str
-    ensures { result.now ≡ letter-of layer }
+    ensures { result.now ≡ letter_of layer }
 {
     match layer {
         Layer::Word => "W",
