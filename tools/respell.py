@@ -23,7 +23,7 @@ MADE = re.compile(r"[a-z][a-z-]*-[a-z-]*$")
 
 
 # Lemmas on the library's own functions, whose snake case would be those functions' names.
-GIVEN = {"bit-or": "bit-bit_or", "bit-xor": "bit-bit_xor"}
+GIVEN = {"bit-or": "bit_bit_or", "bit-xor": "bit_bit_xor"}
 
 
 def files(root, ends):
@@ -100,6 +100,9 @@ def main():
     for name, new in sorted(names.items()):
         if new in all_names or sum(1 for x in names.values() if x == new) > 1:
             print(f"falls together: {name} and {new}")
+    if not names:
+        print("0 names: nothing to do")
+        return
     pattern = re.compile(f"(?<![^{EDGE}])(?:" + "|".join(re.escape(n) for n in sorted(names, key=len, reverse=True)) + f")(?![^{EDGE}])")
     for path in files("crates", (".antt", ".rt", ".edit")):
         text = text_of(path)
