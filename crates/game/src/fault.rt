@@ -74,11 +74,8 @@ impl Reason {
         match self {
             Reason::Length | Reason::Kind | Reason::Unused => Layer::Word,
             Reason::Range => Layer::Record,
-            Reason::Crowded
-            | Reason::Count
-            | Reason::Shape
-            | Reason::Entry
-            | Reason::NoStart => Layer::System,
+            Reason::Crowded | Reason::Count | Reason::Shape | Reason::Entry | Reason::NoStart =>
+                Layer::System,
             _ => Layer::Case,
         }
     }
