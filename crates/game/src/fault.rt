@@ -182,7 +182,7 @@ impl fmt::Display for Stop {
 
     fn fmt<W: fmt::Write>(&self, f: &mut fmt::Formatter<W>) -> fmt::Result {
         match self {
-            Stop::Refused(fault) => write!(f, "{fault}"),
+            Stop::Refused(refusal) => write!(f, "{refusal}"),
             Stop::Memory => write!(f, "out of memory"),
         }
     }
