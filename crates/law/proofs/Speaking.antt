@@ -12,6 +12,7 @@ use Rattle.game.proofs.Strategy.{sheets_agree}
 use Rattle.game.specs.Goals.{group_of}
 use Rattle.game.specs.Formulas.{Aims, formula, Sat}
 use Rattle.law.specs.Worlds.{Plan, Model, Play, World, goal_at, aim, met, with_replies}
+use Rattle.game.specs.declared.fault.Reason.{Reason}
 use Rattle.law.specs.Refusals.{Call, enter, settle, query, plan, move, reply, begin, announce, tell, end, strike, awaiting_move, awaiting_reply, granted_on, announcing, refusals, first}
 use Rattle.game.specs.declared.fault.Fault.{Fault}
 use Rattle.law.specs.Steps.{fault, Answer, number, done, told, entry, outcome, refused, idle, Announces, Tells, Ends, Does, Ruled, Step}
@@ -27,7 +28,7 @@ use Rattle.law.proofs.Journeys.{aims_unique}
 did : (M : Meaning) (w : World) (c : Call) (r : Answer) (w' : World) → Step M w c r w' → accepted r ≡ true → Does M w c r w' × AllByRecursion Fails (refusals M w c)
 did M w c r w' step ok = go (first (refusals M w c)) refl step.is
   where
-    go : (o : Option ℕ) → first (refusals M w c) ≡ o → Ruled M w c o r w' → Does M w c r w' × AllByRecursion Fails (refusals M w c)
+    go : (o : Option Reason) → first (refusals M w c) ≡ o → Ruled M w c o r w' → Does M w c r w' × AllByRecursion Fails (refusals M w c)
     go (Some n) e h = absurd (clash ok (ap accepted h.0))
     go None e h = (h, passes (refusals M w c) e)
 
@@ -66,13 +67,13 @@ never_refused M w (end i) r w' d = go (slice_get w.plays i) d
     go (Some q) (er, ew) = ap refusing er
 never_refused M w (strike k) r w' (er, ew) = ap refusing er
 
-pub refused_so : (M : Meaning) (w : World) (c : Call) (r : Answer) (w' : World) → Step M w c r w' → (e : Fault) → r ≡ refused e → (first (refusals M w c) ≡ Some e.number) × (e ≡ fault e.number) × (w' ≡ w)
+pub refused_so : (M : Meaning) (w : World) (c : Call) (r : Answer) (w' : World) → Step M w c r w' → (e : Fault) → r ≡ refused e → (first (refusals M w c) ≡ Some e.reason) × (e ≡ fault e.reason) × (w' ≡ w)
 refused_so M w c r w' step e er = go (first (refusals M w c)) refl step.is
   where
-    go : (o : Option ℕ) → first (refusals M w c) ≡ o → Ruled M w c o r w' → (first (refusals M w c) ≡ Some e.number) × (e ≡ fault e.number) × (w' ≡ w)
+    go : (o : Option Reason) → first (refusals M w c) ≡ o → Ruled M w c o r w' → (first (refusals M w c) ≡ Some e.reason) × (e ≡ fault e.reason) × (w' ≡ w)
     go (Some n) eo (er', ew) =
         let same : fault n ≡ e = cc in
-        let en : n ≡ e.number = ap (λ (x : Fault). x.number) same in
+        let en : n ≡ e.reason = ap (λ (x : Fault). x.reason) same in
         (eo ∙ ap Some en, sym same ∙ ap fault en, ew)
     go None eo d = absurd (clash (ap refusing er) (never_refused M w c r w' d))
 

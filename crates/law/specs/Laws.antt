@@ -88,7 +88,7 @@ pub record Stands (M : Meaning) (cs : List Call) (rs : List Answer) (w : World) 
   pub as_told : w.plays ≡ map (play_of M) (logged [] cs rs)
   pub speaks : (call : Call) (r : Answer) (w' : World) → Step M w call r w' → Speaks M w call r
   -- a call is refused by the first test of its list that holds, and then alters nothing
-  pub refuses : (call : Call) (r : Answer) (w' : World) → Step M w call r w' → (e : Fault) → r ≡ refused e → (first (refusals M w call) ≡ Some e.number) × (e ≡ fault e.number) × (w' ≡ w)
+  pub refuses : (call : Call) (r : Answer) (w' : World) → Step M w call r w' → (e : Fault) → r ≡ refused e → (first (refusals M w call) ≡ Some e.reason) × (e ≡ fault e.reason) × (w' ≡ w)
 
 abbrev pub Law : Type 0
 Law =
