@@ -1,7 +1,7 @@
 use Rattle.std.proofs.Common.{◌≡◌, ◌+◌, vec_items, vec_len, sym, ap, ◌∙◌}
 use Rattle.boards.specs.Meaning.{blank, whole_rows}
 use Rattle.boards.proofs.Memory.{new_height, new_rows, new_rise, rows_blank, top_from, up_from}
-use Rattle.boards.proofs.changes.ChangeBoard.new.Goals as goal
+use Rattle.boards.proofs.changes.ChangeBoardInMemory.new.Goals as goal
 
 pub invariant_of-result : goal.invariant_of-result
 invariant_of-result c =
