@@ -173,7 +173,7 @@ impl<T: Drop> From<AllocFailed<T>> for Stop {
     ghost from_gives = { λ _ stop. stop ≡ Memory };
 
     fn from(_: AllocFailed<T>) -> Stop {
-        Stop::Memory
+        Stop::from(AllocError)
     }
 }
 
@@ -182,8 +182,8 @@ impl fmt::Display for Stop {
 
     fn fmt<W: fmt::Write>(&self, f: &mut fmt::Formatter<W>) -> fmt::Result {
         match self {
-            Stop::Refused(refusal) => write!(f, "{refusal}"),
-            Stop::Memory => write!(f, "out of memory"),
+            Self::Refused(refusal) => write!(f, "{refusal}"),
+            Self::Memory => write!(f, "out of memory"),
         }
     }
 }
