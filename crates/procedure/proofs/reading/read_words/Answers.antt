@@ -1,8 +1,7 @@
-use Rattle.std.proofs.Common.{List, Err, sym, subst, zero-add, arith}
+use Rattle.std.proofs.Common.{List, subst, zero-add, arith}
 use Rattle.std.proofs.lemmas.Result.{err_from_is_err_and}
 use Rattle.game.specs.declared.goal.Word.{Word}
 use Rattle.procedure.specs.Words.{words}
-use Rattle.procedure.specs.Reading.{ReadWords}
 use Rattle.procedure.proofs.Cut.{words_short}
 use Rattle.procedure.proofs.Going.{Going, going_fresh, going_more, going_refused, going_missing, going_done}
 use Rattle.procedure.proofs.reading.read_words.Goals as goal
@@ -42,5 +41,4 @@ returns-in_default-stage c =
     let ws = words c.args.bytes.now in
     let r = c.loop-word.reader in
     let next : List Word → Type 0 = λ v. Going ws v c.loop-word.place r in
-    subst (λ e. ReadWords ws (Err e)) (sym c.fault.ensures)
-    (going_missing ws c.loop-word.place r (subst next (words_short c.loop-word.rest.now c.in_default.ensures) c.loop-word.invariant.0) c.in_default-stage.not-Done)
+    going_missing ws c.loop-word.place r (subst next (words_short c.loop-word.rest.now c.in_default.ensures) c.loop-word.invariant.0) c.in_default-stage.not-Done
