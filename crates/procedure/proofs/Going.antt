@@ -85,6 +85,10 @@ going_fresh ws r at fresh =
       flawless = subst Flawless (sym nothing) none;
     }
 
+-- The word that comes is the first of those that are left, at the place of their count.
+pub going_turn : (ws left left' : List Word) (count place : ℕ) (x : Word) (r : Reader) → Going ws left count r → left ≡ x ∷ left' → place ≡ count → Going ws (x ∷ left') place r
+going_turn ws left left' count place x r g first at = subst (λ n. Going ws (x ∷ left') n r) (sym at) (subst (λ v. Going ws v count r) first g)
+
 pub going_more : (ws rest : List Word) (place : ℕ) (x : Word) (r r' : Reader) → Going ws (x ∷ rest) place r →
     Taken r'.stage (said (part r)) x (wrong (holds place r) x) r' → Going ws rest (place + 1) r'
 going_more ws rest place x r r' g t =

@@ -11,7 +11,7 @@ ghost use Rattle.procedure.specs.declared.stage.Stage.TheVariants as stage;
 use crate::procedure::Procedure;
 use crate::reader::Reader;
 use crate::stage::Stage;
-use crate::word::split_word;
+use crate::word::Words;
 use game::fault::{Fault, Reason, Stop};
 use std::alloc::Global;
 use systems::agents::AgentsSystem;
@@ -27,10 +27,11 @@ fn misfits(length: usize) -> bool
 pub fn read_whole(heap: Global, bytes: &[u8]) -> Result<Procedure, Stop>
     ensures { Reads bytes.now result }
 {
-    if misfits(bytes.len()) {
+    let length = bytes.len();
+    if misfits(length) {
         return Err(Stop::Refused(Fault {
             reason: Reason::Length,
-            place: bytes.len() / 4,
+            place: length / 4,
         }));
     }
     let reader = read_words(heap, bytes)?;
@@ -42,18 +43,14 @@ fn read_words(heap: Global, bytes: &[u8]) -> Result<Reader, Stop>
     ensures { ReadWords (words bytes.now) result }
 {
     let mut reader = fresh(heap);
-    let mut rest = bytes;
-    let mut place = 0;
-    while let Some((word, after)) = split_word(rest) {
+    for (place, word) in Words(bytes).enumerate() {
         reader.step(heap, place, word)?;
-        rest = after;
-        place += 1;
     }
     match reader.stage {
         Stage::Done => Ok(reader),
         _ => Err(Stop::Refused(Fault {
             reason: Reason::Kind,
-            place,
+            place: bytes.len() / 4,
         })),
     }
 }
