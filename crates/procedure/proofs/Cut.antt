@@ -15,3 +15,10 @@ words_short (a ∷ []) h = refl
 words_short (a ∷ b ∷ []) h = refl
 words_short (a ∷ b ∷ c ∷ []) h = refl
 words_short (a ∷ b ∷ c ∷ d ∷ rest) h = absurd (omega arith)
+
+pub words_count : (xs : List ℕ) → length (words xs) ≡ length xs / 4
+words_count [] = refl
+words_count (a ∷ []) = omega arith
+words_count (a ∷ b ∷ []) = omega arith
+words_count (a ∷ b ∷ c ∷ []) = omega arith
+words_count (a ∷ b ∷ c ∷ d ∷ rest) = omega (arith, words_count rest)

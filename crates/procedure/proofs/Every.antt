@@ -3,16 +3,16 @@ use Rattle.std.proofs.Common.{◌≡◌, ℕ, ◌*◌, ◌≤◌, Bool, true, fa
 use Rattle.std.proofs.lemmas.Bool.{and_parts, and_from, le-ltb}
 use Rattle.std.proofs.lemmas.List.{get_or_past}
 use Rattle.game.specs.declared.goal.Word.{Word}
-use Rattle.systems.specs.First.{all_of}
+use Rattle.std.specs.List.{list_all}
 use Rattle.systems.specs.Product as whole
 use Rattle.systems.specs.declared.agent.Agent.{Agent}
 use Rattle.procedure.specs.Parts.{product, want_fits}
 
-pub all_push : {X : Type 0} (p : X → Bool) (xs : List X) (x : X) → all_of p xs ≡ true → p x ≡ true → all_of p (xs ++ (x ∷ [])) ≡ true
+pub all_push : {X : Type 0} (p : X → Bool) (xs : List X) (x : X) → list_all p xs ≡ true → p x ≡ true → list_all p (xs ++ (x ∷ [])) ≡ true
 all_push p [] x all here = and_from (p x) true here refl
 all_push p (y ∷ xs) x all here =
-    let parts = and_parts (p y) (all_of p xs) all in
-    and_from (p y) (all_of p (xs ++ (x ∷ []))) parts.0 (all_push p xs x parts.1 here)
+    let parts = and_parts (p y) (list_all p xs) all in
+    and_from (p y) (list_all p (xs ++ (x ∷ []))) parts.0 (all_push p xs x parts.1 here)
 
 pub product_push : (xs : List ℕ) (x : ℕ) → product (xs ++ (x ∷ [])) ≡ product xs * x
 product_push [] x = mul-one x ∙ sym (one-mul x)
@@ -22,8 +22,8 @@ pub product_agents : (gs : List Agent) → whole.product gs ≡ product (map (λ
 product_agents [] = refl
 product_agents (g ∷ gs) = ap (λ v. g.locals * v) (product_agents gs)
 
-pub all_none : {X : Type 0} (p : X → Bool) (xs : List X) → xs ≡ [] → all_of p xs ≡ true
-all_none p xs none = ap (all_of p) none
+pub all_none : {X : Type 0} (p : X → Bool) (xs : List X) → xs ≡ [] → list_all p xs ≡ true
+all_none p xs none = ap (list_all p) none
 
 either : (b : Bool) → cond b false false ≡ false
 either true = refl

@@ -1,4 +1,4 @@
-use Rattle.std.proofs.Common.{◌≡◌, ◌+◌, ◌-◌, ◌∷◌, ◌++◌, map, length, vec_items, sym, ap, ◌∙◌, add-zero, arith, rules}
+use Rattle.std.proofs.Common.{None, ◌≡◌, ◌+◌, ◌-◌, ◌∷◌, ◌++◌, map, length, vec_items, sym, ap, ◌∙◌, add-zero, arith, rules}
 use Rattle.procedure.specs.Texts.{local_word, label_word}
 use Rattle.procedure.specs.Parts.{judged, want_fits, unnamed, labelled}
 use Rattle.procedure.specs.Reader.{part}
@@ -14,7 +14,7 @@ returns-then-self-eq0 c =
     let ts' = vec_items c.push.new.self in
     let more = c.in_ok-push.ensures.items in
     let last : r.left ≡ 0 + 1 = omega (arith, c.if-self-eq0.true, c.requires.ready.3) in
-    let right : judged (x.c + unnamed x) (want_fits (vec_items r.sizes) x) 0 ≡ 0 = search rules in
+    let right : judged (x.c + unnamed x) (want_fits (vec_items r.sizes) x) None ≡ None = search rules in
     label_closes _ x _ _ _ _ _ c.close_label.ensures right
     (ap (λ v. labelled (part r) ++ (label_word v r.line ∷ map local_word ts')) (c.push.new.self.ok.0 ∙ sym (add-zero (length ts')))
     ∙ line_goes local_word (labelled (part r)) (λ v. label_word v r.line) (vec_items r.wants) ts' _ r.left 0 x more (want_word x (vec_items r.sizes) c.requires.kind right) last)
@@ -26,7 +26,7 @@ returns c =
     let h = c.requires.ready.0 in
     let more = c.in_ok-push.ensures.items in
     let fewer : r.left ≡ (r.left - 1) + 1 = omega (arith, c.requires.ready.3) in
-    let right : judged (x.c + unnamed x) (want_fits (vec_items r.sizes) x) 0 ≡ 0 = search rules in
+    let right : judged (x.c + unnamed x) (want_fits (vec_items r.sizes) x) None ≡ None = search rules in
     taken_at stage.LabelLine _ _ _ _ c.requires.at (record {
       right = right;
       says = line_goes local_word (labelled (part r)) (λ v. label_word v r.line) (vec_items r.wants) (vec_items c.push.new.self) _ r.left _ x more

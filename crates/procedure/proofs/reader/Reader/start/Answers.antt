@@ -1,5 +1,5 @@
-use Rattle.std.proofs.Common.{◌≡◌, ℕ, ◌+◌, ◌*◌, ◌<◌, true, ltb, List, vec_items, vec_len, sym, subst, arith, rules}
-use Rattle.systems.specs.First.{all_of}
+use Rattle.std.proofs.Common.{None, ◌≡◌, ℕ, ◌+◌, ◌*◌, ◌<◌, true, ltb, List, vec_items, vec_len, sym, subst, arith, rules}
+use Rattle.std.specs.List.{list_all}
 use Rattle.procedure.specs.Parts.{judged, start_fits, heads}
 use Rattle.procedure.specs.Reader.{part}
 use Rattle.procedure.proofs.Every.{all_push}
@@ -15,8 +15,8 @@ returns c =
     let more = c.in_ok-push.ensures.items in
     let some : 0 < vec_len c.push.new.self = omega (arith, c.in_ok-push.ensures.len) in
     let byte : x.d < 256 = grind arith in
-    let right : judged (x.a + x.b) (start_fits r.states x) 0 ≡ 0 = search rules in
-    let P : List ℕ → Type 0 = λ ss. all_of (λ s. ltb s r.states) ss ≡ true in
+    let right : judged (x.a + x.b) (start_fits r.states x) None ≡ None = search rules in
+    let P : List ℕ → Type 0 = λ ss. list_all (λ s. ltb s r.states) ss ≡ true in
     record {
       right = right;
       says = start_says (heads (part r)) ss (vec_items c.push.new.self) x r.states c.requires.kind right byte more;
