@@ -2,8 +2,7 @@
 use boards::Board;
 use cases::advice::Advice;
 use cases::case::Case;
-use cases::stop::Stop;
-use game::fault::{Fault, Layer};
+use game::fault::{Fault, Layer, Stop};
 use game::goal::Word;
 use game::system::System;
 use std::alloc::Global;
@@ -30,8 +29,8 @@ pub enum Said {
 }
 
 fn refused(fault: Fault) -> Said {
-    match fault.layer {
-        Layer::Case if fault.place == 0 => Said::Refused(fault.number),
+    match fault.reason.layer() {
+        Layer::Case if fault.place == 0 => Said::Refused(u8::from(fault.reason)),
         _ => Said::Lost,
     }
 }
@@ -39,7 +38,7 @@ fn refused(fault: Fault) -> Said {
 fn done(answer: Result<(), Stop>) -> Said {
     match answer {
         Ok(_) => Said::Done,
-        Err(Stop::Refusal(fault)) => refused(fault),
+        Err(Stop::Refused(fault)) => refused(fault),
         Err(Stop::Memory) => Said::Lost,
     }
 }

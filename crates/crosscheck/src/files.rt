@@ -6,10 +6,9 @@ use crate::questions::first_otherwise;
 use crate::random::Random;
 use crate::second_reader::{Found, Wrong, read_file};
 use crate::tally::Numbers;
-use game::fault::Layer;
+use game::fault::{Layer, Stop};
 use game::goal::Word;
 use game::system::System;
-use procedure::error::ReadError;
 use procedure::procedure::Procedure;
 use procedure::reading::read_whole;
 use std::alloc::{AllocError, Global};
@@ -180,14 +179,14 @@ fn agrees(
             Ok(found) => same_found(heap, random, &read, found),
             Err(_) => Ok(false),
         },
-        Err(ReadError::Refused(fault)) => match second {
+        Err(Stop::Refused(fault)) => match second {
             Ok(_) => Ok(false),
             Err(wrong) => Ok(
-                *wrong == Wrong::At(fault.number, fault.place)
-                    && fault.layer == layer(fault.number),
+                *wrong == Wrong::At(u8::from(fault.reason), fault.place)
+                    && fault.reason.layer() == layer(u8::from(fault.reason)),
             ),
         },
-        Err(ReadError::Memory) => Ok(false),
+        Err(Stop::Memory) => Ok(false),
     }
 }
 

@@ -1,7 +1,7 @@
 // Boards in memory that held something else before.
 use crate::plain::place;
 use crate::random::Random;
-use boards::{BitBoard, ChangeBoard};
+use boards::{BitBoard, ChangeBoard, InMemory};
 use std::alloc::{AllocError, Global};
 
 // So many rows and some words that make no row.

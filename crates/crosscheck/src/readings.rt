@@ -89,8 +89,8 @@ fn empty_plain(heap: Global) -> Result<Plain, AllocError> {
 fn agrees(answer: Result<(), Fault>, wanted: Option<(u8, usize)>) -> bool {
     match answer {
         Ok(_) => wanted.is_none(),
-        Err(fault) => match (fault.layer, wanted) {
-            (Layer::System, Some((number, place))) => fault.number == number
+        Err(fault) => match (fault.reason.layer(), wanted) {
+            (Layer::System, Some((number, place))) => u8::from(fault.reason) == number
                 && fault.place == place,
             _ => false,
         },
