@@ -1,5 +1,5 @@
 // The readers of records.
-ghost use Rattle.std.specs.Prelude.{◌≡◌, ◌+◌, ◌<◌, true, false, [], length, vec_len, None, MatchResult, slice_index};
+ghost use Rattle.std.specs.Prelude.{◌≡◌, ◌+◌, ◌<◌, true, false, [], length, vec_len, None, MatchOption, MatchResult, slice_index};
 ghost use Rattle.procedure.specs.Parts.{told, heads, begun, ruled, labelled, aimed, judged, unnamed, system_fits, agent_fits, protocol_fits, line_fits, test_fits, want_fits, start_fits, crowded, miscounted};
 ghost use Rattle.procedure.specs.Reader.{part, Took, Ready, Within, Between, Complete, Finished, ClosedRule, ClosedLabel};
 ghost use Rattle.procedure.specs.Texts.{condition_word};
@@ -144,8 +144,11 @@ impl Reader {
             result self.new }
     {
         unused(place, word.c, idle(word))?;
-        ranged(place, self.test_fits(word))?;
-        self.tests.push(condition_of(word))?;
+        let test = self.test(word).ok_or(Fault {
+            reason: Reason::Range,
+            place,
+        })?;
+        self.tests.push(test)?;
         self.left -= 1;
         if self.left == 0 {
             return self.close_rule(heap);
@@ -153,17 +156,17 @@ impl Reader {
         Ok(())
     }
 
-    // The numbers of a rule line's condition are in their ranges.
-    fn test_fits(&self, word: Word) -> bool
+    // The condition of a rule line that a word says, where its numbers are in their ranges.
+    fn test(&self, word: Word) -> Option<Condition>
         requires { 0 < vec_len self.now.sizes }
-        ensures is { result ≡ test_fits self.now.locals (slice_index self.now.sizes.items 0) self.now.n word }
-        ensures sort { result ≡ true → word.a < 3 }
+        ensures { MatchOption result (test_fits self.now.locals (slice_index self.now.sizes.items 0) self.now.n word ≡ false)
+            (λ t. (test_fits self.now.locals (slice_index self.now.sizes.items 0) self.now.n word ≡ true) × (word.kind ≡ 5 → word.c + unnamed word ≡ 0 → condition_word t ≡ word)) }
     {
         match word.a {
-            0 => word.d < self.locals,
-            1 => word.d < self.sizes[0],
-            2 => word.b < self.n && word.d < 4,
-            _ => false,
+            0 if word.d < self.locals => Some(Condition::Own(word.d)),
+            1 if word.d < self.sizes[0] => Some(Condition::First(word.d)),
+            2 if word.b < self.n && word.d < 4 => Some(Condition::Action(word.b, word.d)),
+            _ => None,
         }
     }
 
@@ -254,11 +257,11 @@ impl Reader {
             (judged (word.c + unnamed word) (want_fits self.old.sizes.items word) None) result self.new }
     {
         unused(place, word.c, idle(word))?;
-        ranged(place, self.want_fits(word))?;
-        self.wants.push(LocalState {
-            agent: word.b,
-            value: word.d,
+        let want = self.want(word).ok_or(Fault {
+            reason: Reason::Range,
+            place,
         })?;
+        self.wants.push(want)?;
         self.left -= 1;
         if self.left == 0 {
             return self.close_label(heap);
@@ -266,14 +269,16 @@ impl Reader {
         Ok(())
     }
 
-    // The numbers of a label line's condition are in their ranges.
-    fn want_fits(&self, word: Word) -> bool
-        ensures { result ≡ want_fits self.now.sizes.items word }
+    // The condition of a label line that a word says, where its numbers are in their ranges. An agent that there is not has no local
+    // states.
+    fn want(&self, word: Word) -> Option<LocalState>
+        ensures { MatchOption result (want_fits self.now.sizes.items word ≡ false)
+            (λ t. (want_fits self.now.sizes.items word ≡ true) × (t ≡ record { agent = word.b; value = word.d })) }
     {
-        if word.b as usize >= self.sizes.len() {
-            return false;
-        }
-        word.a == 3 && word.d < self.sizes[word.b as usize]
+        let agent = word.b;
+        let value = word.d;
+        let size = self.sizes.get(usize::from(agent)).copied().unwrap_or(0);
+        (word.a == 3 && value < size).then_some(LocalState { agent, value })
     }
 
     // The label line under way has all its conditions.
@@ -320,19 +325,5 @@ impl Reader {
         }
         self.stage = Stage::Done;
         Ok(())
-    }
-}
-
-// The condition of a rule line that a word says.
-fn condition_of(word: Word) -> Condition
-    requires kind { word.kind ≡ 5 }
-    requires sort { word.a < 3 }
-    requires spare { word.c + unnamed word ≡ 0 }
-    ensures { condition_word result ≡ word }
-{
-    match word.a {
-        0 => Condition::Own(word.d),
-        1 => Condition::First(word.d),
-        _ => Condition::Action(word.b, word.d),
     }
 }

@@ -4,7 +4,7 @@ use Rattle.game.specs.declared.fault.Reason.TheVariants as reason
 use Rattle.procedure.specs.Faults.{Faulty, fault_at}
 use Rattle.procedure.specs.Words.{words}
 use Rattle.procedure.proofs.Cut.{words_count}
-use Rattle.procedure.proofs.Going.{Going, going_fresh, going_turn, going_more, going_refused, going_missing, going_done}
+use Rattle.procedure.proofs.Going.{Going, going_fresh, going_turn, going_more, going_refused, going_missing}
 use Rattle.procedure.proofs.reading.read_words.Goals as goal
 
 pub loop-place-init : goal.loop-place-init
@@ -20,11 +20,6 @@ loop-place-init c =
       subst (λ v. Going (words bs) v it.count c.fresh-reader.result) (sym left)
           (subst (λ n. Going (words bs) (words bs) n c.fresh-reader.result) (sym none) (going_fresh (words bs) c.fresh-reader.result c.fresh-reader.ensures.at c.fresh-reader.ensures.ready)),
     )
-
-pub step-requires : goal.step-requires
-step-requires c =
-    let g = going_turn (words c.args.bytes.now) _ _ _ c.in-Some.place c.in-Some.word c.loop-place.reader c.loop-place.invariant.2 c.in-Some.ensures.steps.0 c.in-Some.ensures.steps.1 in
-    record { ready = g.ready; counted = g.counted }
 
 pub loop-place-preserved : goal.loop-place-preserved
 loop-place-preserved c =
@@ -46,12 +41,6 @@ returns-in_err-step c =
     let r = c.loop-place.reader in
     let g = going_turn ws _ left _ c.in-Some.place c.in-Some.word r c.loop-place.invariant.2 c.in-Some.ensures.steps.0 c.in-Some.ensures.steps.1 in
     rw (p.1, p.2) (going_refused ws left c.in-Some.place c.in-Some.word r c.step.new.self c.in_err-step.field-0.0 g c.in_err-step.ensures)
-
-pub returns-in-Done : goal.returns-in-Done
-returns-in-Done c =
-    let ws = words c.args.bytes.now in
-    let n = c.loop-place.place-iterator.count in
-    going_done ws n c.loop-place.reader (subst (λ v. Going ws v n c.loop-place.reader) c.in-None.ensures.steps.0.0 c.loop-place.invariant.2) c.in-Done.is
 
 pub returns-in_default : goal.returns-in_default
 returns-in_default c =

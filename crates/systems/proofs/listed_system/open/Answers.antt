@@ -1,5 +1,5 @@
 use Rattle.std.proofs.Common.{◌≡◌, ℕ, Bool, false, not, List, Some, is_some, sym, ap, ◌∙◌}
-use Rattle.std.proofs.lemmas.Bool.{and_left, and_right, not_from_true, cond-true, cond-false}
+use Rattle.std.proofs.lemmas.Bool.{and_left, and_right, not_from_true, cond-false}
 use Rattle.game.specs.declared.fault.Fault.{Fault}
 use Rattle.std.specs.List.{list_any, position}
 use Rattle.systems.specs.Empty.{empty_game}
@@ -25,9 +25,6 @@ refused y _ (startless on none none' none'' off) =
     and_right (shaped y) _ (and_right (not (list_any bad_mask y.masks.now)) _
     (and_right (not (list_any (bad_mark y.atoms) y.marks.now)) _
     (and_right (not (list_any (bad_move y.states) y.moves.now)) _ off)))
-
-pub returns : goal.returns
-returns c = let y = c.args.lists.now in sym (cond-true (accepted y) (listed_meaning y) empty_game c.in_default.ensures)
 
 pub returns-in-Err : goal.returns-in-Err
 returns-in-Err c =
