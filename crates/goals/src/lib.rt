@@ -4,5 +4,4 @@
 mod common;
 pub mod evaluate;
 mod plain;
-mod search;
 pub mod word;
