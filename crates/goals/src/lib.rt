@@ -4,4 +4,5 @@
 mod common;
 pub mod evaluate;
 mod plain;
+mod rows;
 pub mod word;
