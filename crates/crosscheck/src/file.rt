@@ -1,43 +1,82 @@
 // Procedure files of agents' systems.
-use crate::crew::{Crew, Guarded, Member};
+use crate::crew::{Crew, Guarded, Member, Test};
+use crate::kind::Kind;
 use game::goal::Word;
 use procedure::procedure::Procedure;
 use procedure::reading::read_whole;
 use std::alloc::{AllocError, Global};
 use systems::agents::AgentsSystem;
 
-fn word(kind: u8, a: usize, b: usize, c: usize, d: usize) -> Word {
+// The lowest byte of a number.
+fn low(n: usize) -> u8 {
+    let [low, ..] = n.to_le_bytes();
+    low
+}
+
+// A word whose last two fields are one number.
+pub(crate) fn number_word(kind: Kind, n: usize) -> Word {
+    let [d, c, ..] = n.to_le_bytes();
     Word {
-        kind,
-        a: (a & 15) as u8,
-        b: (b & 255) as u8,
-        c: (c & 255) as u8,
-        d: (d & 255) as u8,
+        kind: kind as u8,
+        a: 0,
+        b: 0,
+        c,
+        d,
+    }
+}
+
+impl From<Test> for Word {
+    fn from(test: Test) -> Word {
+        let (a, b, d) = match test {
+            Test::Own(value) => (0, 0, value),
+            Test::First(value) => (1, 0, value),
+            Test::Action { agent, value } => (2, agent, value),
+            Test::Local { agent, value } => (3, agent, value),
+        };
+        Word {
+            kind: Kind::Condition as u8,
+            a,
+            b,
+            c: 0,
+            d,
+        }
     }
 }
 
 // A line and its conditions.
-fn put_line(words: &mut Vec<Word>, kind: u8, line: &Guarded) -> Result<(), AllocError> {
-    words.push(word(kind, line.tests.len(), 0, 0, line.result as usize))?;
-    for test in line.tests.iter() {
-        words.push(word(
-            5,
-            test.sort as usize,
-            test.agent as usize,
-            0,
-            test.value as usize,
-        ))?;
+fn put_line(words: &mut Vec<Word>, kind: Kind, line: &Guarded) -> Result<(), AllocError> {
+    words.push(Word {
+        kind: kind as u8,
+        a: low(line.tests.len()),
+        b: 0,
+        c: 0,
+        d: line.result,
+    })?;
+    for test in &line.tests {
+        words.push(Word::from(*test))?;
     }
     Ok(())
 }
 
 fn put_member(words: &mut Vec<Word>, number: usize, member: &Member) -> Result<(), AllocError> {
-    words.push(word(2, 0, number, member.locals, 0))?;
+    words.push(Word {
+        kind: Kind::Agent as u8,
+        a: 0,
+        b: low(number),
+        c: low(member.locals()),
+        d: 0,
+    })?;
     for (local, mask) in member.masks.iter().enumerate() {
-        words.push(word(3, 0, 0, local, *mask as usize))?;
+        words.push(Word {
+            kind: Kind::Protocol as u8,
+            a: 0,
+            b: 0,
+            c: low(local),
+            d: *mask,
+        })?;
     }
-    for rule in member.rules.iter() {
-        put_line(words, 4, rule)?;
+    for rule in &member.rules {
+        put_line(words, Kind::Rule, rule)?;
     }
     Ok(())
 }
@@ -45,34 +84,33 @@ fn put_member(words: &mut Vec<Word>, number: usize, member: &Member) -> Result<(
 // The words of a system and of its goals.
 pub(crate) fn words_of(heap: Global, crew: &Crew, goals: &[Word]) -> Result<Vec<Word>, AllocError> {
     let mut words = Vec::new(heap);
-    words.push(word(1, 0, crew.members.len(), crew.atoms, 1))?;
-    for (i, member) in crew.members.iter().enumerate() {
-        put_member(&mut words, i, member)?;
+    words.push(Word {
+        kind: Kind::System as u8,
+        a: 0,
+        b: low(crew.members.len()),
+        c: low(crew.atoms),
+        d: 1,
+    })?;
+    for (number, member) in crew.members.iter().enumerate() {
+        put_member(&mut words, number, member)?;
     }
-    for start in crew.starts.iter() {
-        words.push(word(6, 0, 0, *start / 256, *start % 256))?;
+    for start in &crew.starts {
+        words.push(number_word(Kind::Start, *start))?;
     }
-    for label in crew.labels.iter() {
-        put_line(&mut words, 7, label)?;
+    for label in &crew.labels {
+        put_line(&mut words, Kind::Label, label)?;
     }
-    for goal in goals.iter() {
-        words.push(*goal)?;
-    }
-    let before = words.len();
-    words.push(word(9, 0, 0, before / 256, before % 256))?;
+    words.extend_from_slice(goals)?;
+    words.push(number_word(Kind::End, words.len()))?;
     Ok(words)
 }
 
 // The bytes of words, the lowest first.
 pub(crate) fn bytes_of(heap: Global, words: &[Word]) -> Result<Vec<u8>, AllocError> {
-    let mut bytes = Vec::new(heap);
-    for word in words.iter() {
-        bytes.push(word.d)?;
-        bytes.push(word.c)?;
-        bytes.push(word.b)?;
-        bytes.push((word.kind & 15).wrapping_mul(16) | word.a & 15)?;
-    }
-    Ok(bytes)
+    words
+        .iter()
+        .flat_map(|word| [word.d, word.c, word.b, (word.kind & 15) << 4 | word.a & 15])
+        .collect(heap)
 }
 
 // The system of a procedure file.

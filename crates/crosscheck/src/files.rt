@@ -1,227 +1,174 @@
 // Procedure files, whole and damaged.
+use crate::counts::{Differences, Outcomes};
 use crate::file::{bytes_of, words_of};
-use crate::hiring::random_crew;
-use crate::plain::power;
+use crate::hiring::Limits;
+use crate::kind::Kind;
+use crate::plain::choices_of;
 use crate::questions::first_otherwise;
 use crate::random::Random;
-use crate::second_reader::{Found, Wrong, read_file};
-use crate::tally::Numbers;
-use game::fault::{Layer, Stop};
+use crate::second_reader::{Found, read_file};
+use game::fault::Stop;
 use game::goal::Word;
 use game::system::System;
 use procedure::procedure::Procedure;
 use procedure::reading::read_whole;
-use std::alloc::{AllocError, Global};
+use std::alloc::AllocError;
 use std::io;
 
-// A word of a kind, with any fields near to right.
-fn near_word(random: &mut Random) -> Word {
-    Word {
-        kind: random.byte(11),
-        a: random.byte(4),
-        b: random.byte(3),
-        c: random.byte(4),
-        d: random.byte(4),
-    }
-}
-
-fn edit_field(random: &mut Random, word: &mut Word) {
-    let value = match random.below(4) {
-        0 => random.byte(256),
-        1 => 0,
-        _ => random.byte(20),
-    };
-    match random.below(9) {
-        0 => word.kind = random.byte(16),
-        1 | 2 => word.a = value & 15,
-        3 | 4 => word.b = value,
-        5 | 6 => word.c = value,
-        _ => word.d = value,
-    }
-}
-
 // Gives the last word the right count, as an end word.
-fn recount(words: &mut Vec<Word>) {
-    let before = words.len().wrapping_sub(1);
-    if let Some(last) = words.get_mut(before) {
-        last.c = (before / 256 & 255) as u8;
-        last.d = (before & 255) as u8;
+fn recount(words: &mut [Word]) {
+    if let Some((last, before)) = words.split_last_mut() {
+        let [d, c, ..] = before.len().to_le_bytes();
+        last.c = c;
+        last.d = d;
     }
 }
 
-// Lists with a word put in, left out or written twice.
-fn spliced(heap: Global, random: &mut Random, words: &[Word]) -> Result<Vec<Word>, AllocError> {
-    let spot = random.below(words.len());
-    let way = random.below(4);
-    let mut list = Vec::new(heap);
-    for (i, word) in words.iter().enumerate() {
-        if i == spot && way == 0 {
-            list.push(near_word(random))?;
-        }
-        if i != spot || way != 1 {
-            list.push(*word)?;
-        }
-        if i == spot && way > 1 {
-            list.push(*word)?;
+impl Random {
+    // A word of a kind, with any fields near to right.
+    fn near_word(&mut self) -> Word {
+        Word {
+            kind: self.byte(11),
+            a: self.byte(4),
+            b: self.byte(3),
+            c: self.byte(4),
+            d: self.byte(4),
         }
     }
-    if random.below(4) > 0 {
-        recount(&mut list);
-    }
-    Ok(list)
-}
 
-fn damaged(heap: Global, random: &mut Random, words: Vec<Word>) -> Result<Vec<Word>, AllocError> {
-    let mut words = words;
-    for _ in 0..random.below(3) {
-        match random.below(8) {
-            0 | 1 | 2 => {
-                let spot = random.below(words.len());
-                if let Some(word) = words.get_mut(spot) {
-                    edit_field(random, word);
+    fn edit_field(&mut self, word: &mut Word) {
+        let value = match self.below(4) {
+            0 => self.byte(256),
+            1 => 0,
+            _ => self.byte(20),
+        };
+        match self.below(9) {
+            0 => word.kind = self.byte(16),
+            1 | 2 => word.a = value & 15,
+            3 | 4 => word.b = value,
+            5 | 6 => word.c = value,
+            _ => word.d = value,
+        }
+    }
+
+    // Puts a word in, leaves one out or writes one twice.
+    fn splice(&mut self, words: &mut Vec<Word>) -> Result<(), AllocError> {
+        let spot = self.below(words.len());
+        let way = self.below(4);
+        if let Some(word) = words.get(spot).copied() {
+            match way {
+                0 => words.insert(spot, self.near_word())?,
+                1 => {
+                    let _ = words.remove(spot);
+                }
+                _ => words.insert(spot, word)?,
+            }
+        }
+        if self.below(4) > 0 {
+            recount(words);
+        }
+        Ok(())
+    }
+
+    fn damage_words(&mut self, words: &mut Vec<Word>) -> Result<(), AllocError> {
+        for _ in 0..self.below(3) {
+            match self.below(8) {
+                0..=2 => {
+                    let spot = self.below(words.len());
+                    if let Some(word) = words.get_mut(spot) {
+                        self.edit_field(word);
+                    }
+                }
+                3 => words.truncate(self.below(words.len().saturating_add(1))),
+                _ => self.splice(words)?,
+            }
+        }
+        Ok(())
+    }
+
+    fn file(&mut self) -> Result<Vec<u8>, AllocError> {
+        let limits = if self.once_in(6) {
+            Limits {
+                agents: 6,
+                locals: 16,
+                states: 3000,
+            }
+        } else {
+            Limits {
+                agents: 3,
+                locals: 4,
+                states: 48,
+            }
+        };
+        let crew = self.crew(limits)?;
+        let count = self.below(5);
+        let goals = self.list(
+            count,
+            |random| Word {
+                kind: Kind::Goal as u8,
+                a: random.byte(16),
+                b: random.byte(256),
+                c: random.byte(256),
+                d: random.byte(256),
+            },
+        )?;
+        let mut words = words_of(self.heap, &crew, &goals)?;
+        self.damage_words(&mut words)?;
+        let mut bytes = bytes_of(self.heap, &words)?;
+        match self.below(60) {
+            0 => bytes.truncate(self.below(5)),
+            1 => bytes.truncate(self.below(bytes.len().saturating_add(1))),
+            2 => {
+                for _ in 0..self.below(20000) {
+                    bytes.push(self.byte(256))?;
                 }
             }
-            3 => {
-                let keep = random.below(words.len().wrapping_add(1));
-                words.truncate(keep);
-            }
-            _ => words = spliced(heap, random, &words)?,
+            _ => {}
         }
-    }
-    Ok(words)
-}
-
-fn random_file(heap: Global, random: &mut Random) -> Result<Vec<u8>, AllocError> {
-    let crew = if random.once_in(6) {
-        random_crew(heap, random, 6, 16, 3000)?
-    } else {
-        random_crew(heap, random, 3, 4, 48)?
-    };
-    let mut goals = Vec::new(heap);
-    for _ in 0..random.below(5) {
-        goals.push(Word {
-            kind: 8,
-            a: random.byte(16),
-            b: random.byte(256),
-            c: random.byte(256),
-            d: random.byte(256),
-        })?;
-    }
-    let words = words_of(heap, &crew, &goals)?;
-    let words = damaged(heap, random, words)?;
-    let mut bytes = bytes_of(heap, &words)?;
-    match random.below(60) {
-        0 => bytes.truncate(random.below(5)),
-        1 => {
-            let keep = random.below(bytes.len().wrapping_add(1));
-            bytes.truncate(keep)
-        }
-        2 => {
-            for _ in 0..random.below(20000) {
-                bytes.push(random.byte(256))?;
-            }
-        }
-        _ => {}
-    }
-    Ok(bytes)
-}
-
-// The layer of a refusal of a file.
-fn layer(number: u8) -> Layer {
-    match number {
-        1 | 2 | 3 => Layer::Word,
-        4 => Layer::Record,
-        _ => Layer::System,
+        Ok(bytes)
     }
 }
 
-fn same_words(one: &[Word], other: &[Word]) -> bool {
-    if one.len() != other.len() {
-        return false;
-    }
-    for (i, word) in one.iter().enumerate() {
-        match other.get(i) {
-            Some(same) if *same == *word => {}
-            _ => return false,
-        }
-    }
-    true
-}
-
-fn same_found(
-    heap: Global,
-    random: &mut Random,
-    read: &Procedure,
-    found: &Found,
-) -> Result<bool, AllocError> {
-    if !same_words(&read.goals, &found.goals) {
+// Whether both readers found the same. Of a large system only the number of states is compared.
+fn same_found(random: &mut Random, read: &Procedure, found: &Found) -> Result<bool, AllocError> {
+    if read.goals != found.goals {
         return Ok(false);
     }
-    let cells = found
-        .crew
-        .states()
-        .wrapping_mul(power(found.crew.members.len()));
-    if cells > 4096 {
-        return Ok(read.system.states() == found.crew.states());
+    let states = found.crew.states();
+    if states.saturating_mul(choices_of(found.crew.members.len())) > 4096 {
+        return Ok(read.system.states() == states);
     }
-    let plain = found.crew.plain(heap)?;
+    let plain = found.crew.plain(random.heap)?;
     Ok(first_otherwise(&read.system, &plain, random).is_none())
 }
 
 fn agrees(
-    heap: Global,
     random: &mut Random,
     bytes: &[u8],
-    second: &Result<Found, Wrong>,
+    second: &Result<Found, Stop>,
 ) -> Result<bool, AllocError> {
-    match read_whole(heap, bytes) {
-        Ok(read) => match second {
-            Ok(found) => same_found(heap, random, &read, found),
-            Err(_) => Ok(false),
-        },
-        Err(Stop::Refused(fault)) => match second {
-            Ok(_) => Ok(false),
-            Err(wrong) => Ok(
-                *wrong == Wrong::At(u8::from(fault.reason), fault.place)
-                    && fault.reason.layer() == layer(u8::from(fault.reason)),
-            ),
-        },
-        Err(Stop::Memory) => Ok(false),
-    }
-}
-
-// 0 for a file that is read, else the number of its refusal.
-fn number_of(second: &Result<Found, Wrong>) -> usize {
-    match second {
-        Ok(_) => 0,
-        Err(Wrong::At(number, _)) => *number as usize,
-        Err(Wrong::Memory) => 15,
+    match (read_whole(random.heap, bytes), second) {
+        (Ok(read), Ok(found)) => same_found(random, &read, found),
+        (Err(Stop::Refused(fault)), Err(Stop::Refused(wanted))) => Ok(fault == *wanted),
+        _ => Ok(false),
     }
 }
 
 pub(crate) fn compare_files(rt: &HostRuntime, random: &mut Random) -> io::Result<()> {
     let heap = rt.alloc();
-    let mut counts = Numbers::new();
-    let mut differ = 0usize;
+    let mut outcomes = Outcomes::new(heap);
+    let mut differences = Differences::new();
     for k in 0..10000 {
-        let bytes = random_file(heap, random)?;
+        let bytes = random.file()?;
         let second = read_file(heap, &bytes);
-        if !agrees(heap, random, &bytes, &second)? {
-            if differ == 0 {
-                println!(rt; "file {k} differs: {bytes:?}")?;
-            }
-            differ = differ.wrapping_add(1);
+        if !agrees(random, &bytes, &second)? {
+            differences.note(|| println!(rt; "file {k} differs: {bytes:?}"))?;
         }
-        counts.count(number_of(&second));
+        match second {
+            Ok(_) => outcomes.add(None)?,
+            Err(Stop::Refused(fault)) => outcomes.add(Some(fault))?,
+            Err(Stop::Memory) => return Err(AllocError.into()),
+        }
     }
-    println!(rt;
-        "procedure files: 10000, {differ} differ; read {}, 1: {}, 2: {}, 3: {}, 4: {}, 6: {}, 8: {}",
-        counts.of(0),
-        counts.of(1),
-        counts.of(2),
-        counts.of(3),
-        counts.of(4),
-        counts.of(6),
-        counts.of(8)
-    )
+    println!(rt; "procedure files: 10000, {differences}; read {outcomes}")
 }

@@ -1,152 +1,111 @@
 // Agents' systems at random.
-use crate::crew::{Crew, Guarded, Member, Test};
-use crate::listing::mask;
+use crate::crew::{Crew, Guarded, Member, Test, states_of};
+use crate::listing::after;
 use crate::random::Random;
-use std::alloc::{AllocError, Global};
+use std::alloc::AllocError;
 
-// A condition of a rule of an agent with so many local states.
-fn rule_test(random: &mut Random, agents: usize, first: usize, own: usize) -> Test {
-    match random.below(4) {
-        0 => Test {
-            sort: 0,
-            agent: 0,
-            value: random.byte(own),
-        },
-        1 => Test {
-            sort: 1,
-            agent: 0,
-            value: random.byte(first),
-        },
-        _ => Test {
-            sort: 2,
-            agent: random.byte(agents),
-            value: random.byte(4),
-        },
-    }
+// The most agents, local states of each and states that a system may have.
+#[derive(Clone, Copy)]
+pub struct Limits {
+    pub agents: usize,
+    pub locals: usize,
+    pub states: usize,
 }
 
-// A rule; every second one leads from a local state to the one after it.
-fn random_rule(
-    heap: Global,
-    random: &mut Random,
-    agents: usize,
-    first: usize,
-    own: usize,
-) -> Result<Guarded, AllocError> {
-    let mut tests = Vec::new(heap);
-    let from = random.below(own);
-    let mut result = random.below(own);
-    if random.once_in(2) {
-        result = from.wrapping_add(1).checked_rem(own).unwrap_or(0);
-        tests.push(Test {
-            sort: 0,
-            agent: 0,
-            value: (from & 255) as u8,
-        })?;
-    }
-    for _ in 0..random.below(3) {
-        tests.push(rule_test(random, agents, first, own))?;
-    }
-    Ok(Guarded {
-        result: (result & 255) as u8,
-        tests,
-    })
+// What the rules of an agent speak of: so many agents, and so many local states of agent 0 and of its own.
+#[derive(Clone, Copy)]
+pub struct Scope {
+    pub agents: usize,
+    pub first: usize,
+    pub own: usize,
 }
 
-fn random_member(
-    heap: Global,
-    random: &mut Random,
-    agents: usize,
-    first: usize,
-    locals: usize,
-) -> Result<Member, AllocError> {
-    let mut masks = Vec::new(heap);
-    for _ in 0..locals {
-        masks.push(mask(random))?;
-    }
-    let mut rules = Vec::new(heap);
-    for _ in 0..random.below(9) {
-        rules.push(random_rule(heap, random, agents, first, locals)?)?;
-    }
-    Ok(Member {
-        locals,
-        masks,
-        rules,
-    })
-}
-
-fn random_label(heap: Global, random: &mut Random, crew: &Crew) -> Result<Guarded, AllocError> {
-    let mut tests = Vec::new(heap);
-    for _ in 0..random.below(4) {
-        let agent = random.byte(crew.members.len());
-        let value = random.byte(crew.locals(agent as usize));
-        tests.push(Test {
-            sort: 3,
-            agent,
-            value,
-        })?;
-    }
-    Ok(Guarded {
-        result: random.byte(crew.atoms),
-        tests,
-    })
-}
-
-// How many local states an agent has, so that there are at most so many states.
-fn random_locals(random: &mut Random, most: usize, states: usize, limit: usize) -> usize {
-    let locals = random.below(most).wrapping_add(1);
-    if locals.wrapping_mul(states) > limit {
-        1
-    } else {
-        locals
-    }
-}
-
-fn random_members(
-    heap: Global,
-    random: &mut Random,
-    agents: usize,
-    most: usize,
-    limit: usize,
-) -> Result<Vec<Member>, AllocError> {
-    let mut members = Vec::new(heap);
-    let mut states = 1usize;
-    let mut first = 1usize;
-    for i in 0..agents {
-        let locals = random_locals(random, most, states, limit);
-        if i == 0 {
-            first = locals;
-        }
-        states = states.wrapping_mul(locals);
-        members.push(random_member(heap, random, agents, first, locals)?)?;
-    }
-    Ok(members)
-}
-
-// An agents' system of up to so many agents, each of up to so many local states, with at most so many states.
-pub(crate) fn random_crew(
-    heap: Global,
-    random: &mut Random,
-    agents: usize,
-    most: usize,
-    limit: usize,
-) -> Result<Crew, AllocError> {
-    let count = random.below(agents).wrapping_add(1);
-    let mut crew = Crew {
-        atoms: random.below(5),
-        members: random_members(heap, random, count, most, limit)?,
-        starts: Vec::new(heap),
-        labels: Vec::new(heap),
-    };
-    for _ in 0..random.below(3).wrapping_add(1) {
-        let start = random.below(crew.states());
-        crew.starts.push(start)?;
-    }
-    if crew.atoms > 0 {
-        for _ in 0..random.below(8) {
-            let label = random_label(heap, random, &crew)?;
-            crew.labels.push(label)?;
+impl Random {
+    fn test(&mut self, scope: Scope) -> Test {
+        match self.below(4) {
+            0 => Test::Own(self.byte(scope.own)),
+            1 => Test::First(self.byte(scope.first)),
+            _ => Test::Action {
+                agent: self.byte(scope.agents),
+                value: self.byte(4),
+            },
         }
     }
-    Ok(crew)
+
+    // A rule; every second one leads from a local state to the one after it.
+    fn rule(&mut self, scope: Scope) -> Result<Guarded, AllocError> {
+        let mut tests = Vec::new(self.heap);
+        let from = self.byte(scope.own);
+        let mut result = self.byte(scope.own);
+        if self.once_in(2) {
+            result = u8::try_from(after(usize::from(from), scope.own)).unwrap_or(0);
+            tests.push(Test::Own(from))?;
+        }
+        for _ in 0..self.below(3) {
+            tests.push(self.test(scope))?;
+        }
+        Ok(Guarded { result, tests })
+    }
+
+    fn member(&mut self, scope: Scope) -> Result<Member, AllocError> {
+        let masks = self.list(scope.own, |random| random.mask())?;
+        let mut rules = Vec::new(self.heap);
+        for _ in 0..self.below(9) {
+            rules.push(self.rule(scope)?)?;
+        }
+        Ok(Member { masks, rules })
+    }
+
+    fn members(&mut self, agents: usize, limits: Limits) -> Result<Vec<Member>, AllocError> {
+        let mut members = Vec::new(self.heap);
+        for _ in 0..agents {
+            let drawn = self.below(limits.locals) + 1;
+            let own = if states_of(&members).saturating_mul(drawn) > limits.states {
+                1
+            } else {
+                drawn
+            };
+            let first = members.first().map_or(own, Member::locals);
+            let scope = Scope { agents, first, own };
+            members.push(self.member(scope)?)?;
+        }
+        Ok(members)
+    }
+
+    fn label(&mut self, crew: &Crew) -> Result<Guarded, AllocError> {
+        let mut tests = Vec::new(self.heap);
+        for _ in 0..self.below(4) {
+            let agent = self.byte(crew.members.len());
+            if let Some(member) = crew.members.get(usize::from(agent)) {
+                let value = self.byte(member.locals());
+                tests.push(Test::Local { agent, value })?;
+            }
+        }
+        Ok(Guarded {
+            result: self.byte(crew.atoms),
+            tests,
+        })
+    }
+
+    // An agents' system within the limits.
+    pub(crate) fn crew(&mut self, limits: Limits) -> Result<Crew, AllocError> {
+        let agents = self.below(limits.agents) + 1;
+        let atoms = self.below(5);
+        let members = self.members(agents, limits)?;
+        let states = states_of(&members);
+        let count = self.below(3) + 1;
+        let mut crew = Crew {
+            atoms,
+            members,
+            starts: self.list(count, |random| random.below(states))?,
+            labels: Vec::new(self.heap),
+        };
+        if crew.atoms > 0 {
+            for _ in 0..self.below(8) {
+                let label = self.label(&crew)?;
+                crew.labels.push(label)?;
+            }
+        }
+        Ok(crew)
+    }
 }

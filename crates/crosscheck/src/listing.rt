@@ -1,10 +1,11 @@
 // Listed games at random, and what they answer.
-use crate::plain::{Plain, bit, digit, place, power};
+use crate::plain::{Plain, Seat, State, action_of, bit, choices_of};
 use crate::random::Random;
 use std::alloc::{AllocError, Global};
 use systems::line::MoveLine;
 use systems::lists::Lists;
 
+// The lists of a game, which may be of any length.
 #[derive(Drop)]
 pub struct Listing {
     pub agents: usize,
@@ -15,6 +16,15 @@ pub struct Listing {
     pub marks: Vec<u32>,
     pub starts: Vec<u8>,
     pub moves: Vec<MoveLine>,
+}
+
+// Whether a move line covers every action of a choice at a state.
+fn covers(line: &MoveLine, state: usize, choice: usize) -> bool {
+    usize::from(line.state) == state
+        && line.covers.iter().enumerate().all(|(agent, cover)| bit(
+            u32::from(*cover),
+            action_of(choice, agent),
+        ))
 }
 
 impl Listing {
@@ -33,159 +43,141 @@ impl Listing {
 
     // Where a joint choice leads: the first move line decides that covers every action.
     fn lands(&self, state: usize, choice: usize) -> usize {
-        for line in self.moves.iter() {
-            let mut fits = line.state as usize == state;
-            for (i, cover) in line.covers.iter().enumerate() {
-                if !bit(*cover as u32, digit(choice, i)) {
-                    fits = false;
-                }
-            }
-            if fits {
-                return line.next as usize;
-            }
-        }
-        state
+        self.moves
+            .iter()
+            .find(|line| covers(line, state, choice))
+            .map_or(state, |line| usize::from(line.next))
     }
 
-    fn nexts(&self, heap: Global) -> Result<Vec<usize>, AllocError> {
-        let mut nexts = Vec::new(heap);
-        for state in 0..self.states {
-            for choice in 0..power(self.agents) {
-                nexts.push(self.lands(state, choice))?;
-            }
-        }
-        Ok(nexts)
-    }
-
+    // The game of lists that fit each other.
     pub(crate) fn plain(&self, heap: Global) -> Result<Plain, AllocError> {
-        let mut starts = Vec::new(heap);
-        for start in self.starts.iter() {
-            starts.push(*start != 0)?;
+        let agents = self.agents.max(1);
+        let seats = self.masks.chunks(agents).zip(self.looks.chunks(agents));
+        let marks = self.marks.iter().zip(&self.starts);
+        let mut states = Vec::new(heap);
+        for (state, ((masks, looks), (marks, start))) in seats.zip(marks).enumerate() {
+            states.push(State {
+                seats: masks
+                    .iter()
+                    .zip(looks)
+                    .map(|(mask, look)| Seat {
+                        mask: *mask,
+                        look: *look,
+                    })
+                    .collect(heap)?,
+                marks: *marks,
+                is_start: *start != 0,
+                nexts: (0..choices_of(self.agents))
+                    .map(|choice| self.lands(state, choice))
+                    .collect(heap)?,
+            })?;
         }
         Ok(Plain {
             agents: self.agents,
-            states: self.states,
             atoms: self.atoms,
-            masks: Vec::from_slice(heap, self.masks.as_slice())?,
-            looks: Vec::from_slice(heap, self.looks.as_slice())?,
-            marks: Vec::from_slice(heap, self.marks.as_slice())?,
-            starts,
-            nexts: self.nexts(heap)?,
+            states,
         })
     }
 }
 
-fn cover(random: &mut Random) -> u8 {
-    if random.once_in(2) {
-        15
-    } else {
-        random.byte(16)
+// The number after k below n, and 0 after the last.
+pub(crate) fn after(k: usize, n: usize) -> usize {
+    match k.checked_add(1) {
+        Some(next) if next < n => next,
+        _ => 0,
     }
 }
 
-// Every second line leads to the state after its own.
-pub(crate) fn any_move(random: &mut Random, states: usize) -> MoveLine {
-    let state = random.below(states);
-    let next = if random.once_in(2) {
-        state.wrapping_add(1).checked_rem(states).unwrap_or(0)
-    } else {
-        random.below(states)
-    };
-    MoveLine {
-        state: (state & 65535) as u16,
-        covers: [
-            cover(random),
-            cover(random),
-            cover(random),
-            cover(random) | 1,
-            cover(random) | 1,
-            cover(random) | 1,
-        ],
-        next: (next & 65535) as u16,
+impl Random {
+    fn cover(&mut self) -> u8 {
+        if self.once_in(2) { 15 } else { self.byte(16) }
     }
-}
 
-// A mask of one or two actions mostly.
-pub(crate) fn mask(random: &mut Random) -> u8 {
-    let one = 1u8 << random.byte(4).min(3);
-    let other = 1u8 << random.byte(4).min(3);
-    match random.below(5) {
-        0 => random.byte(15).saturating_add(1),
-        1 | 2 => one,
-        _ => one | other,
+    // Every second line leads to the state after its own.
+    pub(crate) fn move_line(&mut self, states: usize) -> MoveLine {
+        let state = self.below(states);
+        let next = if self.once_in(2) {
+            after(state, states)
+        } else {
+            self.below(states)
+        };
+        MoveLine {
+            state: u16::try_from(state).unwrap_or(0),
+            covers: [
+                self.cover(),
+                self.cover(),
+                self.cover(),
+                self.cover() | 1,
+                self.cover() | 1,
+                self.cover() | 1,
+            ],
+            next: u16::try_from(next).unwrap_or(0),
+        }
     }
-}
 
-fn random_moves(
-    heap: Global,
-    random: &mut Random,
-    states: usize,
-) -> Result<Vec<MoveLine>, AllocError> {
-    let mut moves = Vec::new(heap);
-    let count = random.below(place(states, 6, 1));
-    for _ in 0..count {
-        moves.push(any_move(random, states))?;
+    // A mask of one or two actions mostly.
+    pub(crate) fn mask(&mut self) -> u8 {
+        let one = 1 << self.byte(4);
+        let other = 1 << self.byte(4);
+        match self.below(5) {
+            0 => self.byte(15) + 1,
+            1 | 2 => one,
+            _ => one | other,
+        }
     }
-    Ok(moves)
-}
 
-fn random_marks(
-    heap: Global,
-    random: &mut Random,
-    states: usize,
-    atoms: usize,
-) -> Result<Vec<u32>, AllocError> {
-    let mut marks = Vec::new(heap);
-    let rare = random.below(6).wrapping_add(2);
-    for _ in 0..states {
-        let mut mark = 0;
-        for p in 0..atoms.min(28) {
-            if random.once_in(rare) {
-                mark |= 1u32 << p;
+    // The atoms that hold at a state.
+    fn marks(&mut self, atoms: usize, rare: usize) -> u32 {
+        let mut marks = 0;
+        for atom in 0..atoms.min(28) {
+            if self.once_in(rare) {
+                marks |= 1 << atom;
             }
         }
-        marks.push(mark)?;
+        marks
     }
-    Ok(marks)
-}
 
-fn random_starts(heap: Global, random: &mut Random, states: usize) -> Result<Vec<u8>, AllocError> {
-    let mut starts = Vec::new(heap);
-    let sure = random.below(states);
-    for s in 0..states {
-        if s == sure || random.once_in(3) {
-            starts.push(random.byte(255).saturating_add(1))?;
-        } else {
-            starts.push(0)?;
+    fn starts(&mut self, states: usize) -> Result<Vec<u8>, AllocError> {
+        let mut starts = Vec::new(self.heap);
+        let sure = self.below(states);
+        for state in 0..states {
+            let start = if state == sure || self.once_in(3) {
+                self.byte(255) + 1
+            } else {
+                0
+            };
+            starts.push(start)?;
         }
+        Ok(starts)
     }
-    Ok(starts)
-}
 
-// A listed game that the check accepts.
-pub(crate) fn random_listing(heap: Global, random: &mut Random) -> Result<Listing, AllocError> {
-    let agents = random.below(3).wrapping_add(1);
-    let most = if random.once_in(4) { 27 } else { 9 };
-    let states = random.below(most).wrapping_add(1);
-    let atoms = random.below(5);
-    let mut masks = Vec::new(heap);
-    let mut looks = Vec::new(heap);
-    let kinds = random.below(states).wrapping_add(1);
-    for _ in 0..states.wrapping_mul(agents) {
-        masks.push(mask(random))?;
-        looks.push(random.byte(kinds) as u16)?;
+    // A listed game that the check accepts.
+    pub(crate) fn listing(&mut self) -> Result<Listing, AllocError> {
+        let agents = self.below(3) + 1;
+        let most = if self.once_in(4) { 27 } else { 9 };
+        let states = self.below(most) + 1;
+        let atoms = self.below(5);
+        let kinds = self.below(states) + 1;
+        let mut masks = Vec::new(self.heap);
+        let mut looks = Vec::new(self.heap);
+        for _ in 0..states * agents {
+            masks.push(self.mask())?;
+            looks.push(u16::from(self.byte(kinds)))?;
+        }
+        let rare = self.below(6) + 2;
+        let marks = self.list(states, |random| random.marks(atoms, rare))?;
+        let starts = self.starts(states)?;
+        let count = self.below(states * 6 + 1);
+        let moves = self.list(count, |random| random.move_line(states))?;
+        Ok(Listing {
+            agents,
+            states,
+            atoms,
+            masks,
+            looks,
+            marks,
+            starts,
+            moves,
+        })
     }
-    let marks = random_marks(heap, random, states, atoms)?;
-    let starts = random_starts(heap, random, states)?;
-    let moves = random_moves(heap, random, states)?;
-    Ok(Listing {
-        agents,
-        states,
-        atoms,
-        masks,
-        looks,
-        marks,
-        starts,
-        moves,
-    })
 }

@@ -3,11 +3,14 @@
 
 mod ask;
 mod calls;
+mod counts;
 mod crew;
 mod damage;
 mod file;
 mod files;
+mod goal_word;
 mod hiring;
+mod kind;
 mod listing;
 mod places;
 mod plain;
@@ -18,8 +21,11 @@ mod second;
 mod second_reader;
 mod session;
 mod sets;
+mod settled;
 mod sheet;
+mod source;
 mod tally;
+mod turns;
 mod words;
 
 use crate::calls::compare_calls;
@@ -29,7 +35,7 @@ use crate::readings::compare_readings;
 use std::io;
 
 fn main(rt: HostRuntime) -> io::Result<()> {
-    let mut random = Random::new(20260);
+    let mut random = Random::new(rt.alloc(), 20260);
     compare_readings(&rt, &mut random)?;
     compare_calls(&rt, &mut random)?;
     compare_files(&rt, &mut random)

@@ -1,5 +1,5 @@
 // Every question about a system, for numbers that are known and not known.
-use crate::plain::{Plain, power};
+use crate::plain::{Plain, choices_of};
 use crate::random::Random;
 use game::system::System;
 
@@ -14,98 +14,73 @@ pub enum Asked {
     Start(usize),
 }
 
-fn sizes<S: System>(system: &S, plain: &Plain) -> Option<Asked> {
-    if system.agents() != plain.agents {
-        return Some(Asked::Sizes);
-    }
-    if system.states() != plain.states {
-        return Some(Asked::Sizes);
-    }
-    if system.atoms() != plain.atoms {
-        return Some(Asked::Sizes);
-    }
-    None
+// A system and what it should answer.
+#[derive(Drop)]
+struct Pair<'a, S: System> {
+    system: &'a S,
+    plain: &'a Plain,
 }
 
-fn allowed<S: System>(system: &S, plain: &Plain, agent: usize, state: usize) -> Option<Asked> {
-    for action in 0..7 {
-        if system.allowed(agent, state, action) != plain.allowed(agent, state, action) {
-            return Some(Asked::Allowed(agent, state, action));
+impl<S: System> Pair<'_, S> {
+    // Whether both answer the same.
+    fn agree(&self, asked: Asked) -> bool {
+        let Pair { system, plain } = *self;
+        match asked {
+            Asked::Sizes => {
+                system.agents() == plain.agents
+                    && system.states() == plain.states.len()
+                    && system.atoms() == plain.atoms
+            }
+            Asked::Allowed(agent, state, action) => {
+                system.allowed(agent, state, action) == plain.allowed(agent, state, action)
+            }
+            Asked::Next(state, choice) => system.next(state, choice) == plain.next(state, choice),
+            Asked::Look(agent, state) => system.look(agent, state) == plain.look(agent, state),
+            Asked::Holds(atom, state) => system.holds(atom, state) == plain.holds(atom, state),
+            Asked::Start(state) => system.start(state) == plain.start(state),
         }
     }
-    None
+
+    fn differs(&self, asked: Asked) -> Option<Asked> {
+        (!self.agree(asked)).then_some(asked)
+    }
+
+    fn first_of_agent(&self, agent: usize, state: usize) -> Option<Asked> {
+        (0..7)
+            .find_map(|action| self.differs(Asked::Allowed(agent, state, action)))
+            .or_else(|| self.differs(Asked::Look(agent, state)))
+    }
+
+    fn first_of_state(&self, state: usize) -> Option<Asked> {
+        let agents = self.plain.agents.saturating_add(2);
+        let atoms = self.plain.atoms.saturating_add(2);
+        let choices = choices_of(self.plain.agents).saturating_add(3);
+        (0..agents)
+            .find_map(|agent| self.first_of_agent(agent, state))
+            .or_else(|| (0..atoms).find_map(|atom| self.differs(Asked::Holds(atom, state))))
+            .or_else(|| self.differs(Asked::Start(state)))
+            .or_else(|| (0..choices).find_map(|choice| self.differs(Asked::Next(state, choice))))
+    }
+
+    fn first_of_far(&self, random: &mut Random) -> Option<Asked> {
+        let (x, y, z) = (random.far(), random.far(), random.far());
+        self.differs(Asked::Allowed(x, y, z))
+            .or_else(|| self.differs(Asked::Next(x, y)))
+            .or_else(|| self.differs(Asked::Look(x, y)))
+            .or_else(|| self.differs(Asked::Holds(x, y)))
+            .or_else(|| self.differs(Asked::Start(x)))
+    }
 }
 
-fn next<S: System>(system: &S, plain: &Plain, state: usize) -> Option<Asked> {
-    for choice in 0..power(plain.agents).wrapping_add(3) {
-        if system.next(state, choice) != plain.next(state, choice) {
-            return Some(Asked::Next(state, choice));
+impl Random {
+    // A number far from all that is known, or a small one.
+    fn far(&mut self) -> usize {
+        match self.below(3) {
+            0 => self.word() as usize,
+            1 => self.below(70000),
+            _ => self.below(8),
         }
     }
-    None
-}
-
-fn holds<S: System>(system: &S, plain: &Plain, state: usize) -> Option<Asked> {
-    for atom in 0..plain.atoms.wrapping_add(2) {
-        if system.holds(atom, state) != plain.holds(atom, state) {
-            return Some(Asked::Holds(atom, state));
-        }
-    }
-    None
-}
-
-fn of_agents<S: System>(system: &S, plain: &Plain, state: usize) -> Option<Asked> {
-    for agent in 0..plain.agents.wrapping_add(2) {
-        if let Some(asked) = allowed(system, plain, agent, state) {
-            return Some(asked);
-        }
-        if system.look(agent, state) != plain.look(agent, state) {
-            return Some(Asked::Look(agent, state));
-        }
-    }
-    None
-}
-
-fn of_state<S: System>(system: &S, plain: &Plain, state: usize) -> Option<Asked> {
-    if let Some(asked) = of_agents(system, plain, state) {
-        return Some(asked);
-    }
-    if let Some(asked) = holds(system, plain, state) {
-        return Some(asked);
-    }
-    if system.start(state) != plain.start(state) {
-        return Some(Asked::Start(state));
-    }
-    next(system, plain, state)
-}
-
-// A number far from all that is known, or a small one.
-fn far(random: &mut Random) -> usize {
-    match random.below(3) {
-        0 => random.word() as usize,
-        1 => random.below(70000),
-        _ => random.below(8),
-    }
-}
-
-fn of_far<S: System>(system: &S, plain: &Plain, random: &mut Random) -> Option<Asked> {
-    let (x, y, z) = (far(random), far(random), far(random));
-    if system.allowed(x, y, z) != plain.allowed(x, y, z) {
-        return Some(Asked::Allowed(x, y, z));
-    }
-    if system.next(x, y) != plain.next(x, y) {
-        return Some(Asked::Next(x, y));
-    }
-    if system.look(x, y) != plain.look(x, y) {
-        return Some(Asked::Look(x, y));
-    }
-    if system.holds(x, y) != plain.holds(x, y) {
-        return Some(Asked::Holds(x, y));
-    }
-    if system.start(x) != plain.start(x) {
-        return Some(Asked::Start(x));
-    }
-    None
 }
 
 // The first question that the system answers otherwise.
@@ -114,18 +89,9 @@ pub(crate) fn first_otherwise<S: System>(
     plain: &Plain,
     random: &mut Random,
 ) -> Option<Asked> {
-    if let Some(asked) = sizes(system, plain) {
-        return Some(asked);
-    }
-    for state in 0..plain.states.wrapping_add(2) {
-        if let Some(asked) = of_state(system, plain, state) {
-            return Some(asked);
-        }
-    }
-    for _ in 0..20 {
-        if let Some(asked) = of_far(system, plain, random) {
-            return Some(asked);
-        }
-    }
-    None
+    let pair = Pair { system, plain };
+    let states = plain.states.len().saturating_add(2);
+    pair.differs(Asked::Sizes)
+        .or_else(|| (0..states).find_map(|state| pair.first_of_state(state)))
+        .or_else(|| (0..20).find_map(|_| pair.first_of_far(random)))
 }

@@ -1,170 +1,136 @@
 // Questions about systems, and the check of lists.
-use crate::crew::Crew;
-use crate::damage::{broken, damage};
-use crate::file::{bytes_of, system_of, words_of};
-use crate::hiring::random_crew;
-use crate::listing::{Listing, random_listing};
-use crate::plain::Plain;
-use crate::questions::{Asked, first_otherwise};
+use crate::counts::{Differences, Outcomes};
+use crate::hiring::Limits;
+use crate::plain::{Plain, Seat, State};
+use crate::questions::Asked;
 use crate::random::Random;
-use crate::tally::Numbers;
-use game::fault::{Fault, Layer};
+use crate::source::Source;
 use std::alloc::{AllocError, Global};
-use std::io;
+use std::num::Wrapping;
+use std::{fmt, io};
 use systems::check::check;
-use systems::listed_system::open;
 
+// The systems of which every question was asked.
 #[derive(Drop)]
-struct Counts {
-    systems: usize,
-    states: usize,
-    choices: usize,
-    differ: usize,
+struct Questioned {
+    systems: Wrapping<usize>,
+    states: Wrapping<usize>,
+    choices: Wrapping<usize>,
+    differences: Differences,
 }
 
-impl Counts {
-    fn new() -> Counts {
-        Counts {
-            systems: 0,
-            states: 0,
-            choices: 0,
-            differ: 0,
+impl Questioned {
+    fn new() -> Questioned {
+        Questioned {
+            systems: Wrapping(0),
+            states: Wrapping(0),
+            choices: Wrapping(0),
+            differences: Differences::new(),
         }
     }
 
     fn add(&mut self, rt: &HostRuntime, plain: &Plain, found: Option<Asked>) -> io::Result<()> {
-        self.systems = self.systems.wrapping_add(1);
-        self.states = self.states.wrapping_add(plain.states);
-        self.choices = self.choices.wrapping_add(plain.nexts.len());
+        self.systems += 1;
+        self.states += plain.states.len();
+        self.choices += plain
+            .states
+            .iter()
+            .map(|state| Wrapping(state.nexts.len()))
+            .sum::<Wrapping<usize>>();
         if let Some(asked) = found {
-            if self.differ == 0 {
-                println!(rt; "differs at {asked:?} of system {}", self.systems)?;
-            }
-            self.differ = self.differ.wrapping_add(1);
+            let number = self.systems.0;
+            self.differences
+                .note(|| println!(rt; "differs at {asked:?} of system {number}"))?;
         }
         Ok(())
     }
+}
 
-    fn report(&self, rt: &HostRuntime, name: &str) -> io::Result<()> {
-        println!(rt;
-            "{name}: {} systems, {} states, {} joint choices, {} differ",
-            self.systems, self.states, self.choices, self.differ
+impl fmt::Display for Questioned {
+    fn fmt<W: fmt::Write>(&self, f: &mut fmt::Formatter<W>) -> fmt::Result {
+        let systems = self.systems.0;
+        let states = self.states.0;
+        let choices = self.choices.0;
+        let differences = &self.differences;
+        write!(
+            f,
+            "{systems} systems, {states} states, {choices} joint choices, {differences}"
         )
-    }
-}
-
-fn of_listing(random: &mut Random, listing: &Listing, plain: &Plain) -> Option<Asked> {
-    first_otherwise(&open(&listing.lists()), plain, random)
-}
-
-fn of_crew(
-    heap: Global,
-    random: &mut Random,
-    crew: &Crew,
-    plain: &Plain,
-) -> Result<Option<Asked>, AllocError> {
-    let words = words_of(heap, crew, &[])?;
-    let bytes = bytes_of(heap, &words)?;
-    match system_of(heap, &bytes) {
-        Some(system) => Ok(first_otherwise(&system, plain, random)),
-        None => Ok(Some(Asked::Sizes)),
     }
 }
 
 // One agent, one state, no atoms, action 0, look 0 and a start.
 fn empty_plain(heap: Global) -> Result<Plain, AllocError> {
+    let state = State {
+        seats: vec![in heap; Seat { mask: 1, look: 0 }]?,
+        marks: 0,
+        is_start: true,
+        nexts: vec![in heap; 0; 4]?,
+    };
     Ok(Plain {
         agents: 1,
-        states: 1,
         atoms: 0,
-        masks: Vec::from_slice(heap, &[1])?,
-        looks: Vec::from_slice(heap, &[0])?,
-        marks: Vec::from_slice(heap, &[0])?,
-        starts: Vec::from_slice(heap, &[true])?,
-        nexts: Vec::from_slice(heap, &[0, 0, 0, 0])?,
+        states: vec![in heap; state]?,
     })
 }
 
-// Whether the check says what is broken, at its entry.
-fn agrees(answer: Result<(), Fault>, wanted: Option<(u8, usize)>) -> bool {
-    match answer {
-        Ok(_) => wanted.is_none(),
-        Err(fault) => match (fault.reason.layer(), wanted) {
-            (Layer::System, Some((number, place))) => u8::from(fault.reason) == number
-                && fault.place == place,
-            _ => false,
-        },
-    }
-}
-
-// The number of what is broken, or 0.
-fn number_of(wanted: Option<(u8, usize)>) -> usize {
-    match wanted {
-        Some((number, _)) => number as usize,
-        None => 0,
-    }
-}
-
-// The game of the lists, or the empty game.
-fn plain_of(
-    heap: Global,
-    listing: &Listing,
-    wanted: Option<(u8, usize)>,
-) -> Result<Plain, AllocError> {
-    if wanted.is_some() {
-        return empty_plain(heap);
-    }
-    listing.plain(heap)
-}
-
+// Lists that are damaged make the empty game where they break a rule.
 fn compare_checks(rt: &HostRuntime, random: &mut Random) -> io::Result<()> {
     let heap = rt.alloc();
-    let mut opened = Counts::new();
-    let mut counts = Numbers::new();
-    let mut differ = 0usize;
+    let mut opened = Questioned::new();
+    let mut outcomes = Outcomes::new(heap);
+    let mut differences = Differences::new();
     for k in 0..6000 {
-        let mut listing = random_listing(heap, random)?;
-        damage(heap, random, &mut listing)?;
-        let wanted = broken(&listing);
-        if !agrees(check(&listing.lists()), wanted) {
-            if differ == 0 {
-                println!(rt; "the check differs at lists {k}, should be {wanted:?}")?;
-            }
-            differ = differ.wrapping_add(1);
+        let mut listing = random.listing()?;
+        random.damage(&mut listing)?;
+        let broken = listing.broken();
+        if check(&listing.lists()) != broken {
+            differences.note(|| println!(rt;
+                "the check differs at lists {k}, should be {broken:?}"
+            ))?;
         }
-        counts.count(number_of(wanted));
-        let plain = plain_of(heap, &listing, wanted)?;
-        let found = of_listing(random, &listing, &plain);
+        outcomes.add(broken.err())?;
+        let plain = match broken {
+            Ok(()) => listing.plain(heap)?,
+            Err(_) => empty_plain(heap)?,
+        };
+        let found = listing.first_otherwise(&plain, random)?;
         opened.add(rt, &plain, found)?;
     }
-    println!(rt;
-        "check of lists: {differ} differ; accepted {}, 11: {}, 12: {}, 14: {}",
-        counts.of(0),
-        counts.of(11),
-        counts.of(12),
-        counts.of(14)
-    )?;
-    opened.report(rt, "damaged lists opened")
+    println!(rt; "check of lists: {differences}; accepted {outcomes}")?;
+    println!(rt; "damaged lists opened: {opened}")
+}
+
+// Asks every question of 2,000 systems, each drawn with what it should answer.
+fn compare_systems<
+    P: Source + Drop,
+    F: FnMut(&mut Random, usize) -> Result<(P, Plain), AllocError>,
+>(rt: &HostRuntime, random: &mut Random, name: &str, mut draw: F) -> io::Result<()>
+    requires { F.IsAlwaysCallable draw }
+{
+    let mut questioned = Questioned::new();
+    for k in 0..2000 {
+        let (source, plain) = draw(random, k)?;
+        let found = source.first_otherwise(&plain, random)?;
+        questioned.add(rt, &plain, found)?;
+    }
+    println!(rt; "questions to {name}: {questioned}")
 }
 
 pub(crate) fn compare_readings(rt: &HostRuntime, random: &mut Random) -> io::Result<()> {
-    let heap = rt.alloc();
-    let mut listed = Counts::new();
-    for _ in 0..2000 {
-        let listing = random_listing(heap, random)?;
-        let plain = listing.plain(heap)?;
-        let found = of_listing(random, &listing, &plain);
-        listed.add(rt, &plain, found)?;
-    }
-    listed.report(rt, "questions to listed games")?;
-    let mut hired = Counts::new();
-    for k in 0..2000 {
-        let agents = if k % 40 == 0 { 6 } else { 3 };
-        let crew = random_crew(heap, random, agents, 5, 48)?;
-        let plain = crew.plain(heap)?;
-        let found = of_crew(heap, random, &crew, &plain)?;
-        hired.add(rt, &plain, found)?;
-    }
-    hired.report(rt, "questions to agents' systems")?;
+    compare_systems(rt, random, "listed games", |random, _| {
+        let listing = random.listing()?;
+        let plain = listing.plain(random.heap)?;
+        Ok((listing, plain))
+    })?;
+    compare_systems(rt, random, "agents' systems", |random, k| {
+        let crew = random.crew(Limits {
+            agents: if k % 40 == 0 { 6 } else { 3 },
+            locals: 5,
+            states: 48,
+        })?;
+        let plain = crew.plain(random.heap)?;
+        Ok((crew, plain))
+    })?;
     compare_checks(rt, random)
 }

@@ -1,219 +1,187 @@
 // A second case, over the plain reading: what each call should say.
 use crate::ask::{Ask, Said};
-use crate::plain::{Plain, at, place};
-use crate::sets::{earlier, value};
-use crate::sheet::{Sheet, sheet_of};
-use game::goal::Word;
+use crate::goal_word::{goal_of, is_known, operands};
+use crate::plain::Plain;
+use crate::settled::Settled;
+use crate::sheet::Sheet;
+use game::fault::{Fault, Reason, Stop};
+use game::goal::{Goal, Word};
 use std::alloc::{AllocError, Global};
 
-// How much a session showed: rounds of G and U, and C that one step of E does not decide.
-#[derive(Clone, Copy, Drop)]
-pub struct Depth {
-    pub rounds: usize,
-    pub common: usize,
-}
-
-// Sets of the settled goals stand one after the other. The board has so many rows, of so many states.
+// The board has so many rows, of so many states.
 #[derive(Drop)]
 pub struct Second {
-    pub plain: Plain,
     pub rows: usize,
     pub width: usize,
-    pub words: Vec<Word>,
-    pub sets: Vec<bool>,
-    pub settled: usize,
-    pub planned: usize,
-    pub sheet: Option<Sheet>,
-    pub depth: Depth,
-}
-
-pub(crate) fn begin(heap: Global, plain: Plain, rows: usize, width: usize) -> Second {
-    Second {
-        plain,
-        rows,
-        width,
-        words: Vec::new(heap),
-        sets: Vec::new(heap),
-        settled: 0,
-        planned: 0,
-        sheet: None,
-        depth: Depth {
-            rounds: 0,
-            common: 0,
-        },
-    }
-}
-
-// Which of the fields b, c, d an operator uses.
-fn uses(a: u8) -> (bool, bool, bool) {
-    match a {
-        0 => (false, false, false),
-        1 => (true, false, false),
-        2 => (false, true, false),
-        3 | 4 => (false, true, true),
-        10 => (true, true, true),
-        _ => (true, true, false),
-    }
+    pub goals: Vec<Goal>,
+    pub settled: Settled,
+    sheet: Option<Sheet>,
 }
 
 impl Second {
-    fn unfit(&self) -> bool {
-        self.rows == 0 || self.width != self.plain.states
+    pub(crate) fn new(heap: Global, plain: Plain, rows: usize, width: usize) -> Second {
+        Second {
+            rows,
+            width,
+            goals: Vec::new(heap),
+            settled: Settled::new(heap, plain),
+            sheet: None,
+        }
     }
 
-    // The first test that a word does not pass.
-    fn entering(&self, word: Word) -> Option<u8> {
-        let (b, c, d) = uses(word.a);
-        if self.unfit() {
-            return Some(20);
-        }
-        if self.words.len() >= self.rows {
-            return Some(21);
-        }
-        if word.kind != 8 || word.a > 10 {
-            return Some(22);
-        }
-        if !b && word.b != 0 || !c && word.c != 0 || !d && word.d != 0 {
-            return Some(22);
-        }
-        if c && word.c as usize >= self.words.len() || d && word.d as usize >= self.words.len() {
-            return Some(23);
-        }
-        if word.a == 1 && word.b as usize >= self.plain.atoms {
-            return Some(24);
-        }
-        if word.a >= 5 && word.b as usize >= 1usize << self.plain.agents.min(6) {
-            return Some(24);
-        }
-        if word.a >= 5 && word.a <= 7 && word.b == 0 {
-            return Some(24);
-        }
-        None
+    pub(crate) fn plain(&self) -> &Plain {
+        &self.settled.plain
     }
 
-    fn enter(&mut self, word: Word) -> Result<Said, AllocError> {
-        if let Some(number) = self.entering(word) {
-            return Ok(Said::Refused(number));
-        }
-        self.words.push(word)?;
-        Ok(Said::Number(self.words.len().wrapping_sub(1)))
+    pub(crate) fn states(&self) -> usize {
+        self.plain().states.len()
     }
 
-    fn settle(&mut self, heap: Global) -> Result<Said, AllocError> {
-        if self.unfit() {
-            return Ok(Said::Refused(20));
+    fn check_board(&self) -> Result<(), Fault> {
+        if self.rows == 0 || self.width != self.states() {
+            return Err(Reason::NoBoard.into());
         }
-        let Some(word) = self.words.get(self.settled) else {
-            return Ok(Said::Refused(32));
+        Ok(())
+    }
+
+    fn check_state(&self, state: usize) -> Result<(), Fault> {
+        if state >= self.states() {
+            return Err(Reason::NoSuchState.into());
+        }
+        Ok(())
+    }
+
+    fn goal(&self, goal: usize) -> Result<Goal, Fault> {
+        match self.goals.get(goal) {
+            Some(goal) => Ok(*goal),
+            None => Err(Reason::NoSuchGoal.into()),
+        }
+    }
+
+    fn sheet(&self) -> Result<&Sheet, Fault> {
+        match &self.sheet {
+            Some(sheet) => Ok(sheet),
+            None => Err(Reason::NoSheet.into()),
+        }
+    }
+
+    // The goal of a word, or the first test that the word does not pass.
+    fn entering(&self, word: Word) -> Result<Goal, Fault> {
+        let count = self.goals.len();
+        self.check_board()?;
+        if count >= self.rows {
+            return Err(Reason::NoRow.into());
+        }
+        let Some(goal) = goal_of(word) else {
+            return Err(Reason::NotAGoal.into());
         };
-        let word = *word;
-        let found = value(heap, &self.plain, word, &self.sets)?;
-        for flag in found.set.iter() {
-            self.sets.push(*flag)?;
+        if operands(goal)
+            .iter()
+            .flatten()
+            .any(|operand| usize::from(*operand) >= count)
+        {
+            return Err(Reason::NotEarlier.into());
         }
-        if word.a == 6 {
-            self.depth.common = self.depth.common.wrapping_add(found.count);
-        } else {
-            self.depth.rounds = self.depth.rounds.wrapping_add(found.count);
+        if !is_known(goal, self.plain().agents, self.plain().atoms) {
+            return Err(Reason::NotKnown.into());
         }
-        self.settled = self.settled.wrapping_add(1);
-        Ok(Said::Done)
+        Ok(goal)
     }
 
-    fn query(&self, goal: usize, state: usize) -> Said {
-        if self.unfit() {
-            return Said::Refused(20);
-        }
-        if goal >= self.words.len() {
-            return Said::Refused(30);
-        }
-        if goal >= self.settled {
-            return Said::Refused(31);
-        }
-        if state >= self.plain.states {
-            return Said::Refused(33);
-        }
-        Said::Told(at(&self.sets, place(goal, self.plain.states, state), false))
+    fn enter(&mut self, word: Word) -> Result<usize, Stop> {
+        let goal = self.entering(word)?;
+        let number = self.goals.len();
+        self.goals.push(goal).map_err(AllocError::from)?;
+        Ok(number)
     }
 
-    fn plan(&mut self, heap: Global, goal: usize) -> Result<Said, AllocError> {
-        if self.unfit() {
-            return Ok(Said::Refused(20));
+    fn settle(&mut self) -> Result<(), Stop> {
+        self.check_board()?;
+        match self.goals.get(self.settled.count()) {
+            Some(goal) => self.settled.settle(*goal),
+            None => Err(Stop::Refused(Reason::AllSettled.into())),
         }
-        let Some(word) = self.words.get(goal) else {
-            return Ok(Said::Refused(30));
-        };
-        if goal >= self.settled {
-            return Ok(Said::Refused(31));
-        }
-        let word = *word;
-        if word.a < 8 {
-            return Ok(Said::Refused(34));
-        }
-        let c = earlier(heap, &self.plain, &self.sets, word.c)?;
-        let d = earlier(heap, &self.plain, &self.sets, word.d)?;
-        self.sheet = Some(sheet_of(heap, &self.plain, word, c, d)?);
-        self.planned = goal;
-        Ok(Said::Done)
     }
 
-    fn advice(&self, state: usize) -> Said {
-        if self.unfit() {
-            return Said::Refused(20);
-        }
-        let Some(sheet) = &self.sheet else {
-            return Said::Refused(35);
-        };
-        if state >= self.plain.states {
-            return Said::Refused(33);
-        }
+    fn query(&self, goal: usize, state: usize) -> Result<bool, Stop> {
+        self.check_board()?;
+        self.goal(goal)?;
+        let set = self.settled.set_of(goal)?;
+        self.check_state(state)?;
+        Ok(set.has(state))
+    }
+
+    fn plan(&mut self, goal: usize) -> Result<(), Stop> {
+        self.check_board()?;
+        let planned = self.goal(goal)?;
+        self.settled.set_of(goal)?;
+        self.sheet = Some(self.settled.sheet(planned)?);
+        Ok(())
+    }
+
+    // The rank at a granted state, and the move.
+    fn advise(&self, state: usize) -> Result<Option<Said>, Stop> {
+        self.check_board()?;
+        let sheet = self.sheet()?;
+        self.check_state(state)?;
         if !sheet.grants(state) {
-            return Said::Refused(36);
+            return Err(Stop::Refused(Reason::Denied.into()));
         }
-        Said::Pair(sheet.rank(state), sheet.advance(&self.plain, state))
+        Ok(
+            sheet
+                .rank(state)
+                .zip(sheet.advance(state))
+                .map(|(rank, choice)| Said::Entry(rank, choice)),
+        )
     }
 
-    fn reply(&self, heap: Global, state: usize, choice: usize) -> Result<Said, AllocError> {
-        if self.unfit() {
-            return Ok(Said::Refused(20));
-        }
-        let Some(sheet) = &self.sheet else {
-            return Ok(Said::Refused(35));
-        };
-        if state >= self.plain.states {
-            return Ok(Said::Refused(33));
-        }
+    // The rank at a denied state, and the reply to an allowed choice of the group.
+    fn reply(&self, state: usize, choice: usize) -> Result<Option<Said>, Stop> {
+        self.check_board()?;
+        let sheet = self.sheet()?;
+        self.check_state(state)?;
         if sheet.grants(state) {
-            return Ok(Said::Refused(37));
+            return Err(Stop::Refused(Reason::Granted.into()));
         }
-        let group = match self.words.get(self.planned) {
-            Some(word) => word.b,
-            None => 0,
+        let Some(turn) = sheet.turn(state, choice) else {
+            return Err(Stop::Refused(Reason::NotAllowed.into()));
         };
-        if !self.plain.side(group, true, state, choice) {
-            return Ok(Said::Refused(38));
-        }
-        let reply = sheet.reply(heap, &self.plain, state, choice)?;
-        Ok(Said::Pair(sheet.rank(state), reply))
+        Ok(
+            sheet
+                .rank(state)
+                .zip(sheet.reply(state, turn))
+                .map(|(rank, reply)| Said::Entry(rank, reply)),
+        )
     }
 
     // Whether there is a sheet that grants its goal at a state.
     pub(crate) fn grants(&self, state: usize) -> bool {
-        match &self.sheet {
-            Some(sheet) => sheet.grants(state),
-            None => false,
+        self.sheet.as_ref().is_some_and(|sheet| sheet.grants(state))
+    }
+
+    fn call(&mut self, ask: Ask) -> Result<Option<Said>, Stop> {
+        match ask {
+            Ask::Enter(word) => Ok(Some(Said::Number(self.enter(word)?))),
+            Ask::Settle => {
+                self.settle()?;
+                Ok(Some(Said::Done))
+            }
+            Ask::Query(goal, state) => Ok(Some(Said::Told(self.query(goal, state)?))),
+            Ask::Plan(goal) => {
+                self.plan(goal)?;
+                Ok(Some(Said::Done))
+            }
+            Ask::Move(state) => self.advise(state),
+            Ask::Reply(state, choice) => self.reply(state, choice),
         }
     }
 
-    // What a call should say.
-    pub(crate) fn say(&mut self, heap: Global, ask: Ask) -> Result<Said, AllocError> {
-        match ask {
-            Ask::Enter(word) => self.enter(word),
-            Ask::Settle => self.settle(heap),
-            Ask::Query(goal, state) => Ok(self.query(goal, state)),
-            Ask::Plan(goal) => self.plan(heap, goal),
-            Ask::Move(state) => Ok(self.advice(state)),
-            Ask::Reply(state, choice) => self.reply(heap, state, choice),
+    // What a call should say. Nothing is right where the sheet has no entry, and it has one at every state.
+    pub(crate) fn say(&mut self, ask: Ask) -> Result<Option<Said>, AllocError> {
+        match self.call(ask) {
+            Ok(said) => Ok(said),
+            Err(Stop::Refused(fault)) => Ok(Some(Said::Refused(fault))),
+            Err(Stop::Memory) => Err(AllocError),
         }
     }
 }

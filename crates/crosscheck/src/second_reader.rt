@@ -1,26 +1,10 @@
 // A second reader of procedure files, one word after the other in the order of the file.
-use crate::crew::{Crew, Guarded, Member, Test};
+use crate::crew::{Crew, Guarded, Member, Test, states_of};
+use crate::hiring::Scope;
+use crate::kind::Kind;
+use game::fault::{Fault, Reason, Stop};
 use game::goal::Word;
-use std::alloc::{AllocError, AllocFailed, Global};
-
-// What is wrong: its number and the word.
-#[derive(Clone, Copy, PartialEq, Eq, Debug)]
-pub enum Wrong {
-    At(u8, usize),
-    Memory,
-}
-
-impl From<AllocError> for Wrong {
-    fn from(_e: AllocError) -> Wrong {
-        Wrong::Memory
-    }
-}
-
-impl<T: Drop> From<AllocFailed<T>> for Wrong {
-    fn from(_e: AllocFailed<T>) -> Wrong {
-        Wrong::Memory
-    }
-}
+use std::alloc::Global;
 
 #[derive(Drop)]
 pub struct Found {
@@ -28,264 +12,273 @@ pub struct Found {
     pub goals: Vec<Word>,
 }
 
-#[derive(Drop)]
-struct Cursor<'a> {
-    words: &'a [Word],
+// A word and its place in the file.
+#[derive(Clone, Copy)]
+struct Line {
     place: usize,
+    word: Word,
 }
 
-impl Cursor<'_> {
-    fn wrong<T>(&self, number: u8) -> Result<T, Wrong> {
-        Err(Wrong::At(number, self.place.wrapping_sub(1)))
+impl Line {
+    fn refuse<T>(&self, reason: Reason) -> Result<T, Stop> {
+        Err(Stop::Refused(Fault {
+            reason,
+            place: self.place,
+        }))
     }
 
-    // The next word, which has to be of this kind.
-    fn take(&mut self, kind: u8) -> Result<Word, Wrong> {
-        match self.words.get(self.place) {
-            Some(word) if word.kind == kind => {
-                self.place = self.place.wrapping_add(1);
-                Ok(*word)
-            }
-            _ => Err(Wrong::At(2, self.place)),
-        }
-    }
-
-    fn sees(&self, kind: u8) -> bool {
-        match self.words.get(self.place) {
-            Some(word) => word.kind == kind,
-            None => false,
-        }
-    }
-
-    fn zero(&self, field: u8) -> Result<(), Wrong> {
+    fn zero(&self, field: u8) -> Result<(), Stop> {
         if field != 0 {
-            return self.wrong(3);
+            return self.refuse(Reason::Unused);
         }
         Ok(())
     }
 
-    fn range(&self, fine: bool) -> Result<(), Wrong> {
+    fn range(&self, fine: bool) -> Result<(), Stop> {
         if !fine {
-            return self.wrong(4);
+            return self.refuse(Reason::Range);
         }
         Ok(())
     }
 
-    // The conditions of a rule of the last agent.
-    fn rule_tests(
+    // The number that the last two fields make.
+    fn number(&self) -> usize {
+        usize::from(u16::from_be_bytes([self.word.c, self.word.d]))
+    }
+
+    // The test of a rule, within its scope.
+    fn rule_test(&self, scope: Scope) -> Option<Test> {
+        let Word {
+            b: agent,
+            d: value,
+            ..
+        } = self.word;
+        match self.word.a {
+            0 if usize::from(value) < scope.own => Some(Test::Own(value)),
+            1 if usize::from(value) < scope.first => Some(Test::First(value)),
+            2 if usize::from(agent) < scope.agents && value < 4 => {
+                Some(Test::Action { agent, value })
+            }
+            _ => None,
+        }
+    }
+
+    // The test of a label.
+    fn label_test(&self, members: &[Member]) -> Option<Test> {
+        let Word {
+            b: agent,
+            d: value,
+            ..
+        } = self.word;
+        let member = members.get(usize::from(agent))?;
+        (self.word.a == 3 && usize::from(value) < member.locals()).then_some(Test::Local {
+            agent,
+            value,
+        })
+    }
+}
+
+// The lines that are not read yet, and how many there are in all.
+#[derive(Drop)]
+struct Cursor<'a> {
+    heap: Global,
+    rest: &'a [Line],
+    count: usize,
+}
+
+impl<'a> Cursor<'a> {
+    fn place(&self) -> usize {
+        self.rest.first().map_or(self.count, |line| line.place)
+    }
+
+    // The next line, if it is of this kind.
+    fn next_of(&mut self, kind: Kind) -> Option<Line> {
+        let (line, rest) = self.rest.split_first()?;
+        if line.word.kind != kind as u8 {
+            return None;
+        }
+        self.rest = rest;
+        Some(*line)
+    }
+
+    // The next line, which has to be of this kind.
+    fn take(&mut self, kind: Kind) -> Result<Line, Stop> {
+        let place = self.place();
+        self.next_of(kind).ok_or(Stop::Refused(Fault {
+            reason: Reason::Kind,
+            place: place,
+        }))
+    }
+
+    // All lines of a kind that come next, each read with what belongs to it.
+    fn many<T: Drop, F: FnMut(&mut Cursor<'a>, Line) -> Result<T, Stop>>(
         &mut self,
-        heap: Global,
-        crew: &Crew,
-        n: usize,
-        own: usize,
-        count: u8,
-    ) -> Result<Vec<Test>, Wrong> {
-        let mut tests = Vec::new(heap);
-        let first = if crew.members.is_empty() {
-            own
-        } else {
-            crew.locals(0)
-        };
-        for _ in 0..count {
-            let word = self.take(5)?;
-            self.zero(word.c)?;
-            if word.a != 2 && word.a != 3 {
-                self.zero(word.b)?;
+        kind: Kind,
+        mut read: F,
+    ) -> Result<Vec<T>, Stop>
+        requires { F.IsAlwaysCallable read }
+    {
+        let mut list = Vec::new(self.heap);
+        // Every turn takes a line, so there are no more turns than lines.
+        for _ in 0..self.rest.len() {
+            let Some(line) = self.next_of(kind) else {
+                break;
+            };
+            list.push(read(self, line)?)?;
+        }
+        Ok(list)
+    }
+
+    // A rule or a label, whose result is below a limit.
+    fn guarded<F: Fn(&Line) -> Option<Test>>(
+        &mut self,
+        line: Line,
+        limit: usize,
+        test: F,
+    ) -> Result<Guarded, Stop>
+        requires { F.IsAlwaysCallable test }
+    {
+        let Word { a, b, c, d, .. } = line.word;
+        line.zero(b)?;
+        line.zero(c)?;
+        line.range(a <= 8 && usize::from(d) < limit)?;
+        let mut tests = Vec::new(self.heap);
+        for _ in 0..a {
+            let line = self.take(Kind::Condition)?;
+            line.zero(line.word.c)?;
+            if line.word.a != 2 && line.word.a != 3 {
+                line.zero(line.word.b)?;
             }
-            let value = word.d as usize;
-            self.range(match word.a {
-                0 => value < own,
-                1 => value < first,
-                2 => (word.b as usize) < n && value < 4,
-                _ => false,
-            })?;
-            tests.push(Test {
-                sort: word.a,
-                agent: word.b,
-                value: word.d,
-            })?;
-        }
-        Ok(tests)
-    }
-
-    fn label_tests(&mut self, heap: Global, crew: &Crew, count: u8) -> Result<Vec<Test>, Wrong> {
-        let mut tests = Vec::new(heap);
-        for _ in 0..count {
-            let word = self.take(5)?;
-            self.zero(word.c)?;
-            if word.a != 2 && word.a != 3 {
-                self.zero(word.b)?;
+            match test(&line) {
+                Some(test) => tests.push(test)?,
+                None => return line.refuse(Reason::Range),
             }
-            let agent = word.b as usize;
-            self.range(word.a == 3 && agent < crew.members.len())?;
-            self.range((word.d as usize) < crew.locals(agent))?;
-            tests.push(Test {
-                sort: 3,
-                agent: word.b,
-                value: word.d,
-            })?;
         }
-        Ok(tests)
+        Ok(Guarded { result: d, tests })
     }
 
-    fn rule(&mut self, heap: Global, crew: &Crew, n: usize, own: usize) -> Result<Guarded, Wrong> {
-        let word = self.take(4)?;
-        self.zero(word.b)?;
-        self.zero(word.c)?;
-        self.range(word.a <= 8 && (word.d as usize) < own)?;
-        let tests = self.rule_tests(heap, crew, n, own, word.a)?;
-        Ok(Guarded {
-            result: word.d,
-            tests,
-        })
-    }
-
-    fn member(&mut self, heap: Global, crew: &Crew, n: usize) -> Result<Member, Wrong> {
-        let word = self.take(2)?;
-        self.zero(word.a)?;
-        self.zero(word.d)?;
-        let locals = word.c as usize;
-        self.range(word.b as usize == crew.members.len())?;
-        self.range(locals >= 1 && locals <= 16)?;
-        if crew.states().wrapping_mul(locals) > 1024 {
-            return self.wrong(6);
-        }
-        let mut masks = Vec::new(heap);
+    fn masks(&mut self, locals: usize) -> Result<Vec<u8>, Stop> {
+        let mut masks = Vec::new(self.heap);
         for local in 0..locals {
-            let word = self.take(3)?;
-            self.zero(word.a)?;
-            self.zero(word.b)?;
-            self.range(word.c as usize == local && word.d >= 1 && word.d <= 15)?;
-            masks.push(word.d)?;
+            let line = self.take(Kind::Protocol)?;
+            let Word { a, b, c, d, .. } = line.word;
+            line.zero(a)?;
+            line.zero(b)?;
+            line.range(usize::from(c) == local && (1..=15).contains(&d))?;
+            masks.push(d)?;
         }
-        let mut rules = Vec::new(heap);
-        for _ in 0..self.words.len() {
-            if self.sees(4) {
-                rules.push(self.rule(heap, crew, n, locals)?)?;
-            }
-        }
-        Ok(Member {
-            locals,
-            masks,
-            rules,
-        })
+        Ok(masks)
     }
 
-    fn label(&mut self, heap: Global, crew: &Crew) -> Result<Guarded, Wrong> {
-        let word = self.take(7)?;
-        self.zero(word.b)?;
-        self.zero(word.c)?;
-        self.range(word.a <= 8 && (word.d as usize) < crew.atoms)?;
-        let tests = self.label_tests(heap, crew, word.a)?;
-        Ok(Guarded {
-            result: word.d,
-            tests,
-        })
+    // One of so many agents, after those that are read.
+    fn member(&mut self, members: &[Member], agents: usize) -> Result<Member, Stop> {
+        let line = self.take(Kind::Agent)?;
+        line.zero(line.word.a)?;
+        line.zero(line.word.d)?;
+        let own = usize::from(line.word.c);
+        line.range(usize::from(line.word.b) == members.len())?;
+        line.range((1..=16).contains(&own))?;
+        if states_of(members).saturating_mul(own) > 1024 {
+            return line.refuse(Reason::Crowded);
+        }
+        let masks = self.masks(own)?;
+        let first = members.first().map_or(own, Member::locals);
+        let scope = Scope { agents, first, own };
+        let rules = self.many(Kind::Rule, |cursor, line| {
+            cursor.guarded(line, own, |line| line.rule_test(scope))
+        })?;
+        Ok(Member { masks, rules })
     }
 
-    fn start(&mut self, crew: &Crew) -> Result<usize, Wrong> {
-        let word = self.take(6)?;
-        self.zero(word.a)?;
-        self.zero(word.b)?;
-        let state = (word.c as usize)
-            .wrapping_mul(256)
-            .wrapping_add(word.d as usize);
-        self.range(state < crew.states())?;
-        Ok(state)
+    fn members(&mut self, agents: usize) -> Result<Vec<Member>, Stop> {
+        let mut members = Vec::new(self.heap);
+        for _ in 0..agents {
+            let member = self.member(&members, agents)?;
+            members.push(member)?;
+        }
+        Ok(members)
+    }
+
+    fn starts(&mut self, states: usize) -> Result<Vec<usize>, Stop> {
+        let starts = self.many(Kind::Start, |_, line| {
+            line.zero(line.word.a)?;
+            line.zero(line.word.b)?;
+            line.range(line.number() < states)?;
+            Ok(line.number())
+        })?;
+        if starts.is_empty() {
+            return Err(Stop::Refused(Fault {
+                reason: Reason::Kind,
+                place: self.place(),
+            }));
+        }
+        Ok(starts)
+    }
+
+    fn crew(&mut self) -> Result<Crew, Stop> {
+        let line = self.take(Kind::System)?;
+        let Word { a, b, c, d, .. } = line.word;
+        line.zero(a)?;
+        line.range((1..=6).contains(&b) && c <= 28 && d == 1)?;
+        let atoms = usize::from(c);
+        let members = self.members(usize::from(b))?;
+        let starts = self.starts(states_of(&members))?;
+        let labels = self.many(Kind::Label, |cursor, line| {
+            cursor.guarded(line, atoms, |line| line.label_test(&members))
+        })?;
+        Ok(Crew {
+            atoms,
+            members,
+            starts,
+            labels,
+        })
     }
 
     // The end word, and nothing after it.
-    fn end(&mut self) -> Result<(), Wrong> {
-        let before = self.place;
-        let word = self.take(9)?;
-        self.zero(word.a)?;
-        self.zero(word.b)?;
-        if (word.c as usize)
-            .wrapping_mul(256)
-            .wrapping_add(word.d as usize)
-            != before
-        {
-            return self.wrong(8);
+    fn end(&mut self) -> Result<(), Stop> {
+        let line = self.take(Kind::End)?;
+        line.zero(line.word.a)?;
+        line.zero(line.word.b)?;
+        if line.number() != line.place {
+            return line.refuse(Reason::Count);
         }
-        if self.place < self.words.len() {
-            return Err(Wrong::At(8, self.place));
+        match self.rest.first() {
+            Some(line) => line.refuse(Reason::Count),
+            None => Ok(()),
         }
-        Ok(())
-    }
-
-    fn members(&mut self, heap: Global) -> Result<Crew, Wrong> {
-        let word = self.take(1)?;
-        self.zero(word.a)?;
-        self.range(word.b >= 1 && word.b <= 6 && word.c <= 28 && word.d == 1)?;
-        let mut crew = Crew {
-            atoms: word.c as usize,
-            members: Vec::new(heap),
-            starts: Vec::new(heap),
-            labels: Vec::new(heap),
-        };
-        for _ in 0..word.b {
-            let member = self.member(heap, &crew, word.b as usize)?;
-            crew.members.push(member)?;
-        }
-        Ok(crew)
-    }
-
-    fn starts_and_labels(&mut self, heap: Global, crew: &mut Crew) -> Result<(), Wrong> {
-        let start = self.start(crew)?;
-        crew.starts.push(start)?;
-        for _ in 0..self.words.len() {
-            if self.sees(6) {
-                let start = self.start(crew)?;
-                crew.starts.push(start)?;
-            }
-        }
-        for _ in 0..self.words.len() {
-            if self.sees(7) {
-                let label = self.label(heap, crew)?;
-                crew.labels.push(label)?;
-            }
-        }
-        Ok(())
-    }
-
-    fn whole(&mut self, heap: Global) -> Result<Found, Wrong> {
-        let mut crew = self.members(heap)?;
-        self.starts_and_labels(heap, &mut crew)?;
-        let mut goals = Vec::new(heap);
-        for _ in 0..self.words.len() {
-            if self.sees(8) {
-                goals.push(self.take(8)?)?;
-            }
-        }
-        self.end()?;
-        Ok(Found { crew, goals })
     }
 }
 
-fn byte(bytes: &[u8], i: usize) -> u8 {
-    bytes.get(i).copied().unwrap_or(0)
-}
-
-pub(crate) fn read_file(heap: Global, bytes: &[u8]) -> Result<Found, Wrong> {
-    let count = bytes.len() / 4;
-    if bytes.is_empty() || bytes.len() % 4 != 0 || count > 4096 {
-        return Err(Wrong::At(1, count));
+pub(crate) fn read_file(heap: Global, bytes: &[u8]) -> Result<Found, Stop> {
+    let (chunks, rest) = bytes.as_chunks::<4>();
+    let count = chunks.len();
+    if !rest.is_empty() || !(1..=4096).contains(&count) {
+        return Err(Stop::Refused(Fault {
+            reason: Reason::Length,
+            place: count,
+        }));
     }
-    let mut words = Vec::new(heap);
-    for i in 0..count {
-        let from = i.wrapping_mul(4);
-        let top = byte(bytes, from.wrapping_add(3));
-        words.push(Word {
-            kind: top / 16,
-            a: top % 16,
-            b: byte(bytes, from.wrapping_add(2)),
-            c: byte(bytes, from.wrapping_add(1)),
-            d: byte(bytes, from),
-        })?;
-    }
+    let lines: Vec<Line> = chunks
+        .iter()
+        .enumerate()
+        .map(|(place, &[d, c, b, top])| Line {
+            place,
+            word: Word {
+                kind: top >> 4,
+                a: top & 15,
+                b,
+                c,
+                d,
+            },
+        })
+        .collect(heap)?;
     let mut cursor = Cursor {
-        words: words.as_slice(),
-        place: 0,
+        heap,
+        rest: &lines,
+        count,
     };
-    cursor.whole(heap)
+    let crew = cursor.crew()?;
+    let goals = cursor.many(Kind::Goal, |_, line| Ok(line.word))?;
+    cursor.end()?;
+    Ok(Found { crew, goals })
 }

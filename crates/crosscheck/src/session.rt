@@ -1,183 +1,165 @@
 // Lists of calls, with what each should say.
 use crate::ask::{Ask, Said, hear};
-use crate::plain::{at, power};
+use crate::goal_word::is_strategic;
+use crate::plain::choices_of;
 use crate::random::Random;
 use crate::second::Second;
-use crate::words::{any_word, random_goal};
 use boards::Board;
-use cases::calls::Unopened;
 use cases::case::Case;
 use game::system::System;
 use std::alloc::{AllocError, Global};
 
+// A call, and what it should say.
+#[derive(Clone, Copy, Debug)]
+pub struct Step {
+    pub ask: Ask,
+    pub said: Option<Said>,
+}
+
+// The calls that a second case was asked.
 #[derive(Drop)]
 pub struct Session {
-    pub asks: Vec<Ask>,
-    pub says: Vec<Said>,
+    heap: Global,
+    pub second: Second,
+    pub steps: Vec<Step>,
 }
 
 impl Session {
-    pub(crate) fn new(heap: Global) -> Session {
+    fn new(heap: Global, second: Second) -> Session {
         Session {
-            asks: Vec::new(heap),
-            says: Vec::new(heap),
+            heap,
+            second,
+            steps: Vec::new(heap),
         }
     }
 
-    fn ask(&mut self, heap: Global, second: &mut Second, ask: Ask) -> Result<(), AllocError> {
-        let said = second.say(heap, ask)?;
-        self.asks.push(ask)?;
-        self.says.push(said)?;
+    fn ask(&mut self, ask: Ask) -> Result<(), AllocError> {
+        let said = self.second.say(ask)?;
+        self.steps.push(Step { ask, said })?;
         Ok(())
     }
 
     // Enters goals that all can be entered, and settles them.
-    fn settle_goals(
-        &mut self,
-        heap: Global,
-        random: &mut Random,
-        second: &mut Second,
-        count: usize,
-    ) -> Result<(), AllocError> {
+    fn settle_goals(&mut self, random: &mut Random, count: usize) -> Result<(), AllocError> {
         for k in 0..count {
-            let word = random_goal(random, &second.plain, k);
-            self.ask(heap, second, Ask::Enter(word))?;
+            let word = random.goal_word(self.second.plain(), k);
+            self.ask(Ask::Enter(word))?;
         }
         for _ in 0..count {
-            self.ask(heap, second, Ask::Settle)?;
+            self.ask(Ask::Settle)?;
         }
         Ok(())
     }
 
     // Asks for every goal at every state.
-    fn query_all(&mut self, heap: Global, second: &mut Second) -> Result<(), AllocError> {
-        for goal in 0..second.words.len() {
-            for state in 0..second.plain.states {
-                self.ask(heap, second, Ask::Query(goal, state))?;
+    fn query_all(&mut self) -> Result<(), AllocError> {
+        for goal in 0..self.second.goals.len() {
+            for state in 0..self.second.states() {
+                self.ask(Ask::Query(goal, state))?;
             }
         }
         Ok(())
     }
 
     // Asks for the sheet of a goal: every move, and the reply to every choice.
-    fn read_sheet(
-        &mut self,
-        heap: Global,
-        second: &mut Second,
-        goal: usize,
-    ) -> Result<(), AllocError> {
-        self.ask(heap, second, Ask::Plan(goal))?;
-        for state in 0..second.plain.states {
-            self.ask(heap, second, Ask::Move(state))?;
-            let choices = if second.grants(state) {
+    fn read_sheet(&mut self, goal: usize) -> Result<(), AllocError> {
+        self.ask(Ask::Plan(goal))?;
+        for state in 0..self.second.states() {
+            self.ask(Ask::Move(state))?;
+            let choices = if self.second.grants(state) {
                 1
             } else {
-                power(second.plain.agents).min(64)
+                choices_of(self.second.plain().agents).min(64)
             };
             for choice in 0..choices {
-                self.ask(heap, second, Ask::Reply(state, choice))?;
+                self.ask(Ask::Reply(state, choice))?;
             }
         }
         Ok(())
     }
 
-    fn read_sheets(&mut self, heap: Global, second: &mut Second) -> Result<(), AllocError> {
-        for goal in 0..second.words.len() {
-            let strategic = match second.words.get(goal) {
-                Some(word) => word.a >= 8,
-                None => false,
-            };
-            if strategic {
-                self.read_sheet(heap, second, goal)?;
-            }
+    fn read_sheets(&mut self) -> Result<(), AllocError> {
+        let strategic: Vec<usize> = self
+            .second
+            .goals
+            .iter()
+            .enumerate()
+            .filter(|(_, goal)| is_strategic(**goal))
+            .map(|(number, _)| number)
+            .collect(self.heap)?;
+        for goal in strategic {
+            self.read_sheet(goal)?;
         }
         Ok(())
     }
-}
 
-// Goals, their sets and their sheets.
-pub(crate) fn whole_session(
-    heap: Global,
-    random: &mut Random,
-    second: &mut Second,
-    count: usize,
-) -> Result<Session, AllocError> {
-    let mut session = Session::new(heap);
-    session.settle_goals(heap, random, second, count)?;
-    session.query_all(heap, second)?;
-    session.read_sheets(heap, second)?;
-    Ok(session)
-}
-
-// A number that is mostly below n, or just past it.
-fn near(random: &mut Random, n: usize) -> usize {
-    if random.once_in(24) {
-        return random.word() as usize;
+    // Goals, their sets and their sheets.
+    pub(crate) fn whole(
+        random: &mut Random,
+        second: Second,
+        count: usize,
+    ) -> Result<Session, AllocError> {
+        let mut session = Session::new(random.heap, second);
+        session.settle_goals(random, count)?;
+        session.query_all()?;
+        session.read_sheets()?;
+        Ok(session)
     }
-    random.below(n.wrapping_add(2))
-}
 
-// Any call.
-fn any_ask(random: &mut Random, second: &Second) -> Ask {
-    let goals = second.words.len();
-    let states = second.plain.states;
-    match random.below(10) {
-        0 => Ask::Enter(any_word(random, &second.plain, goals)),
-        1 | 2 => Ask::Enter(random_goal(random, &second.plain, goals)),
-        3 | 4 => Ask::Settle,
-        5 => Ask::Query(near(random, goals), near(random, states)),
-        6 | 7 => Ask::Plan(near(random, goals)),
-        8 => Ask::Move(near(random, states)),
-        _ => Ask::Reply(
-            near(random, states),
-            near(random, power(second.plain.agents)),
-        ),
-    }
-}
-
-// Calls in any order, with numbers that are known and not known.
-pub(crate) fn any_session(
-    heap: Global,
-    random: &mut Random,
-    second: &mut Second,
-    count: usize,
-) -> Result<Session, AllocError> {
-    let mut session = Session::new(heap);
-    for _ in 0..count {
-        let ask = any_ask(random, second);
-        session.ask(heap, second, ask)?;
-    }
-    Ok(session)
-}
-
-// The first call to which the case says something else.
-fn first_difference<S: System, B: Board>(
-    heap: Global,
-    case: &mut Case<S, B>,
-    session: &Session,
-) -> Option<usize> {
-    for (i, ask) in session.asks.iter().enumerate() {
-        if hear(heap, case, *ask) != at(&session.says, i, Said::Lost) {
-            return Some(i);
+    // Calls in any order, with numbers that are known and not known.
+    pub(crate) fn any(
+        random: &mut Random,
+        second: Second,
+        count: usize,
+    ) -> Result<Session, AllocError> {
+        let mut session = Session::new(random.heap, second);
+        for _ in 0..count {
+            let ask = random.ask(&session.second);
+            session.ask(ask)?;
         }
+        Ok(session)
     }
-    None
+
+    // Makes the calls on a case of the system and the board; gives the first that says something else.
+    pub(crate) fn replay<S: System + Drop, B: Board + Drop>(
+        &self,
+        system: S,
+        board: B,
+    ) -> Result<Option<usize>, AllocError> {
+        let Ok(mut case) = Case::open(self.heap, system, board) else {
+            return Err(AllocError);
+        };
+        for (place, step) in self.steps.iter().enumerate() {
+            if Some(hear(self.heap, &mut case, step.ask)?) != step.said {
+                return Ok(Some(place));
+            }
+        }
+        Ok(None)
+    }
 }
 
-// Makes the calls on a case of the system and the board; gives the first that differs.
-pub(crate) fn replay<S: System + Drop, B: Board + Drop>(
-    heap: Global,
-    system: S,
-    board: B,
-    session: &Session,
-) -> Option<usize> {
-    match Case::open(heap, system, board) {
-        Ok(mut case) => first_difference(heap, &mut case, session),
-        Err(
-            Unopened {
-                system: _,
-                board: _,
-            },
-        ) => Some(0),
+impl Random {
+    // A number that is mostly below n, or just past it.
+    fn near(&mut self, n: usize) -> usize {
+        if self.once_in(24) {
+            return self.word() as usize;
+        }
+        self.below(n.saturating_add(2))
+    }
+
+    // Any call.
+    fn ask(&mut self, second: &Second) -> Ask {
+        let plain = second.plain();
+        let goals = second.goals.len();
+        let states = plain.states.len();
+        match self.below(10) {
+            0 => Ask::Enter(self.any_word(plain, goals)),
+            1 | 2 => Ask::Enter(self.goal_word(plain, goals)),
+            3 | 4 => Ask::Settle,
+            5 => Ask::Query(self.near(goals), self.near(states)),
+            6 | 7 => Ask::Plan(self.near(goals)),
+            8 => Ask::Move(self.near(states)),
+            _ => Ask::Reply(self.near(states), self.near(choices_of(plain.agents))),
+        }
     }
 }

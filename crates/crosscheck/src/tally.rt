@@ -1,135 +1,128 @@
-// What was compared, and how much of it said something.
+// What sessions showed, and how much of it said something.
 use crate::ask::{Ask, Said};
-use crate::plain::at;
-use crate::second::Second;
-use crate::session::Session;
+use crate::counts::{Counts, Differences};
+use crate::session::{Session, Step};
+use std::alloc::{AllocError, Global};
+use std::fmt;
+use std::num::Wrapping;
+
+// How many entries of sheets were read, and how many of them of rank 2 and more.
+#[derive(Clone, Copy)]
+struct Entries {
+    all: Wrapping<usize>,
+    deep: Wrapping<usize>,
+}
+
+impl Entries {
+    fn new() -> Entries {
+        Entries {
+            all: Wrapping(0),
+            deep: Wrapping(0),
+        }
+    }
+
+    fn add(&mut self, rank: usize) {
+        self.all += 1;
+        if rank > 1 {
+            self.deep += 1;
+        }
+    }
+}
+
+impl fmt::Display for Entries {
+    fn fmt<W: fmt::Write>(&self, f: &mut fmt::Formatter<W>) -> fmt::Result {
+        let all = self.all.0;
+        let deep = self.deep.0;
+        write!(f, "{all}, {deep} of rank 2 and more")
+    }
+}
 
 #[derive(Drop)]
 pub struct Tally {
-    pub systems: usize,
-    pub calls: usize,
-    pub differ: usize,
+    pub differences: Differences,
+    systems: Wrapping<usize>,
+    calls: Wrapping<usize>,
     // by operator
-    pub goals: [usize; 11],
+    goals: Counts<usize>,
     // by number
-    pub refusals: [usize; 64],
-    pub yes: usize,
-    pub no: usize,
-    pub rounds: usize,
-    pub common: usize,
-    pub moves: usize,
-    pub deep_moves: usize,
-    pub replies: usize,
-    pub deep_replies: usize,
-}
-
-fn more(counts: &mut [usize], i: usize) {
-    if let Some(count) = counts.get_mut(i) {
-        *count = count.wrapping_add(1);
-    }
+    refusals: Counts<u8>,
+    granted: Wrapping<usize>,
+    denied: Wrapping<usize>,
+    rounds: Wrapping<usize>,
+    common: Wrapping<usize>,
+    moves: Entries,
+    replies: Entries,
 }
 
 impl Tally {
-    pub(crate) fn new() -> Tally {
+    pub(crate) fn new(heap: Global) -> Tally {
         Tally {
-            systems: 0,
-            calls: 0,
-            differ: 0,
-            goals: [0; 11],
-            refusals: [0; 64],
-            yes: 0,
-            no: 0,
-            rounds: 0,
-            common: 0,
-            moves: 0,
-            deep_moves: 0,
-            replies: 0,
-            deep_replies: 0,
+            differences: Differences::new(),
+            systems: Wrapping(0),
+            calls: Wrapping(0),
+            goals: Counts::new(heap),
+            refusals: Counts::new(heap),
+            granted: Wrapping(0),
+            denied: Wrapping(0),
+            rounds: Wrapping(0),
+            common: Wrapping(0),
+            moves: Entries::new(),
+            replies: Entries::new(),
         }
     }
 
-    fn count_query(&mut self, granted: bool) {
-        if granted {
-            self.yes = self.yes.wrapping_add(1);
-        } else {
-            self.no = self.no.wrapping_add(1);
+    fn add_step(&mut self, step: Step) -> Result<(), AllocError> {
+        self.calls += 1;
+        match (step.ask, step.said) {
+            (_, Some(Said::Refused(fault))) => self.refusals.add(u8::from(fault.reason))?,
+            (Ask::Enter(word), Some(Said::Number(_))) => self.goals.add(usize::from(word.a))?,
+            (Ask::Query(..), Some(Said::Told(true))) => self.granted += 1,
+            (Ask::Query(..), Some(Said::Told(false))) => self.denied += 1,
+            (Ask::Move(_), Some(Said::Entry(rank, _))) => self.moves.add(rank),
+            (Ask::Reply(..), Some(Said::Entry(rank, _))) => self.replies.add(rank),
+            _ => {}
         }
+        Ok(())
     }
 
-    fn count_move(&mut self, rank: usize) {
-        self.moves = self.moves.wrapping_add(1);
-        if rank > 1 {
-            self.deep_moves = self.deep_moves.wrapping_add(1);
+    pub(crate) fn add(&mut self, session: &Session) -> Result<(), AllocError> {
+        self.systems += 1;
+        self.rounds += session.second.settled.depth.rounds;
+        self.common += session.second.settled.depth.common;
+        for step in &session.steps {
+            self.add_step(*step)?;
         }
-    }
-
-    fn count_reply(&mut self, rank: usize) {
-        self.replies = self.replies.wrapping_add(1);
-        if rank > 1 {
-            self.deep_replies = self.deep_replies.wrapping_add(1);
-        }
-    }
-
-    fn count(&mut self, ask: Ask, said: Said) {
-        self.calls = self.calls.wrapping_add(1);
-        match said {
-            Said::Refused(number) => more(&mut self.refusals, number as usize),
-            Said::Told(granted) => self.count_query(granted),
-            Said::Pair(rank, _) => self.count_pair(ask, rank),
-            Said::Number(_) => self.count_goal(ask),
-            Said::Done => {}
-            Said::Lost => {}
-        }
-    }
-
-    fn count_goal(&mut self, ask: Ask) {
-        if let Ask::Enter(word) = ask {
-            more(&mut self.goals, word.a as usize);
-        }
-    }
-
-    fn count_pair(&mut self, ask: Ask, rank: usize) {
-        if let Ask::Move(_) = ask {
-            self.count_move(rank);
-        } else {
-            self.count_reply(rank);
-        }
-    }
-
-    pub(crate) fn add(&mut self, second: &Second, session: &Session) {
-        self.systems = self.systems.wrapping_add(1);
-        self.rounds = self.rounds.wrapping_add(second.depth.rounds);
-        self.common = self.common.wrapping_add(second.depth.common);
-        for (i, ask) in session.asks.iter().enumerate() {
-            self.count(*ask, at(&session.says, i, Said::Lost));
-        }
-    }
-
-    pub(crate) fn goal_count(&self) -> usize {
-        let mut sum = 0usize;
-        for count in self.goals.iter() {
-            sum = sum.wrapping_add(*count);
-        }
-        sum
+        Ok(())
     }
 }
 
-// How often each of the numbers below 16 came.
-#[derive(Drop)]
-pub struct Numbers {
-    counts: [usize; 16],
-}
-
-impl Numbers {
-    pub(crate) fn new() -> Numbers {
-        Numbers { counts: [0; 16] }
-    }
-
-    pub(crate) fn count(&mut self, number: usize) {
-        more(&mut self.counts, number);
-    }
-
-    pub(crate) fn of(&self, number: usize) -> usize {
-        at(&self.counts, number, 0)
+impl fmt::Display for Tally {
+    fn fmt<W: fmt::Write>(&self, f: &mut fmt::Formatter<W>) -> fmt::Result {
+        let systems = self.systems.0;
+        let total = self.goals.total();
+        let calls = self.calls.0;
+        let differences = &self.differences;
+        writeln!(
+            f,
+            "{systems} systems, {total} goals, {calls} calls on each of two boards, {differences}"
+        )?;
+        let goals = std::array::from_fn::<usize, 11, _>(|operator| self.goals.of(&operator));
+        let granted = self.granted.0;
+        let denied = self.denied.0;
+        writeln!(
+            f,
+            "  goals by operator: {goals:?}; granted {granted}, denied {denied}"
+        )?;
+        let rounds = self.rounds.0;
+        let common = self.common.0;
+        writeln!(
+            f,
+            "  rounds of G and U: {rounds}; C that takes more than one step: {common}"
+        )?;
+        let moves = self.moves;
+        let replies = self.replies;
+        writeln!(f, "  moves: {moves}; replies: {replies}")?;
+        let refusals = &self.refusals;
+        write!(f, "  refusals:{refusals}")
     }
 }

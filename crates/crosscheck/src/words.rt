@@ -1,81 +1,84 @@
-// Goal words at random.
-use crate::plain::Plain;
+// Goals and goal words at random.
+use crate::goal_word::word_of;
+use crate::kind::Kind;
+use crate::plain::{Plain, groups_of};
 use crate::random::Random;
-use game::goal::Word;
+use game::goal::{Goal, Word};
 
-fn group(random: &mut Random, agents: usize, least: usize) -> u8 {
-    let all = 1usize << agents.min(6);
-    let some = all.wrapping_sub(least);
-    (random.below(some).wrapping_add(least) & 255) as u8
-}
-
-// An earlier goal, every second time this one.
-fn operand(random: &mut Random, count: usize, often: usize) -> u8 {
-    let any = random.byte(count);
-    if often < count && random.once_in(2) {
-        (often & 255) as u8
-    } else {
-        any
+impl Random {
+    fn group(&mut self, agents: usize) -> u8 {
+        self.byte(groups_of(agents))
     }
-}
 
-// A goal word over so many earlier goals that can be entered: at first TRUE, atoms and NOT.
-pub(crate) fn random_goal(random: &mut Random, plain: &Plain, count: usize) -> Word {
-    let a = match count {
-        0 => random.byte(2),
-        1 | 2 => 1,
-        3 => 2,
-        _ => random.byte(16),
-    };
-    let c = operand(random, count, 3);
-    let d = operand(random, count, 1);
-    let (a, b, c, d) = match a {
-        1 if plain.atoms == 0 && count == 0 => (0, 0, 0, 0),
-        1 if plain.atoms == 0 => (2, 0, c, 0),
-        1 => (1, random.byte(plain.atoms), 0, 0),
-        2 => (2, 0, c, 0),
-        3 => (3, 0, c, d),
-        4 => (4, 0, c, d),
-        5 => (5, group(random, plain.agents, 1), c, 0),
-        6 | 14 => (6, group(random, plain.agents, 1), c, 0),
-        7 => (7, group(random, plain.agents, 1), c, 0),
-        8 => (8, group(random, plain.agents, 0), c, 0),
-        9 | 11 | 15 => (9, group(random, plain.agents, 0), c, 0),
-        10 | 12 | 13 => (10, group(random, plain.agents, 0), c, d),
-        _ => (0, 0, 0, 0),
-    };
-    Word {
-        kind: 8,
-        a,
-        b,
-        c,
-        d,
+    // A group with a member.
+    fn some_group(&mut self, agents: usize) -> u8 {
+        self.byte(groups_of(agents).saturating_sub(1))
+            .saturating_add(1)
     }
-}
 
-// A small number, now and then any byte.
-fn field(random: &mut Random, n: usize) -> u8 {
-    match random.below(8) {
-        0 => random.byte(256),
-        1 | 2 | 3 => 0,
-        _ => random.byte(n.wrapping_add(2)),
+    // An earlier goal, every second time this one.
+    fn operand(&mut self, count: usize, often: u8) -> u8 {
+        let any = self.byte(count);
+        if usize::from(often) < count && self.once_in(2) {
+            often
+        } else {
+            any
+        }
     }
-}
 
-// Any word, near to a goal word.
-pub(crate) fn any_word(random: &mut Random, plain: &Plain, count: usize) -> Word {
-    let kind = if random.once_in(8) {
-        random.byte(16)
-    } else {
-        8
-    };
-    let a = random.byte(13);
-    let groups = 1usize << plain.agents.min(6);
-    Word {
-        kind,
-        a,
-        b: field(random, groups),
-        c: field(random, count),
-        d: field(random, count),
+    // A goal over so many earlier goals that can be entered: at first TRUE, atoms and NOT.
+    pub(crate) fn goal(&mut self, plain: &Plain, count: usize) -> Goal {
+        let operator = match count {
+            0 => self.byte(2),
+            1 | 2 => 1,
+            3 => 2,
+            _ => self.byte(16),
+        };
+        let c = self.operand(count, 3);
+        let d = self.operand(count, 1);
+        match operator {
+            1 if plain.atoms == 0 && count == 0 => Goal::True,
+            1 if plain.atoms == 0 => Goal::Not(c),
+            1 => Goal::Atom(self.byte(plain.atoms)),
+            2 => Goal::Not(c),
+            3 => Goal::Or(c, d),
+            4 => Goal::And(c, d),
+            5 => Goal::Each(self.some_group(plain.agents), c),
+            6 | 14 => Goal::Common(self.some_group(plain.agents), c),
+            7 => Goal::Joint(self.some_group(plain.agents), c),
+            8 => Goal::Next(self.group(plain.agents), c),
+            9 | 11 | 15 => Goal::Always(self.group(plain.agents), c),
+            10 | 12 | 13 => Goal::Until(self.group(plain.agents), c, d),
+            _ => Goal::True,
+        }
+    }
+
+    pub(crate) fn goal_word(&mut self, plain: &Plain, count: usize) -> Word {
+        word_of(self.goal(plain, count))
+    }
+
+    // A small number, now and then any byte.
+    fn field(&mut self, n: usize) -> u8 {
+        match self.below(8) {
+            0 => self.byte(256),
+            1..=3 => 0,
+            _ => self.byte(n.saturating_add(2)),
+        }
+    }
+
+    // Any word, near to a goal word.
+    pub(crate) fn any_word(&mut self, plain: &Plain, count: usize) -> Word {
+        let kind = if self.once_in(8) {
+            self.byte(16)
+        } else {
+            Kind::Goal as u8
+        };
+        Word {
+            kind,
+            a: self.byte(13),
+            b: self.field(groups_of(plain.agents)),
+            c: self.field(count),
+            d: self.field(count),
+        }
     }
 }
