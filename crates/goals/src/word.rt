@@ -1,72 +1,9 @@
-// Goals and their words, and what a goal asks of its operands and of the system.
+// What a goal asks of its operands and of the system.
 ghost use Rattle.std.specs.Prelude.{◌≡◌, ◌^◌, nat_lt};
-ghost use Rattle.game.specs.Goals.{word_of, goal_of, same_word, earlier, group as group_known, some_group, known as goal_known, strategic as is_strategic, group_of};
+ghost use Rattle.game.specs.Goals.{earlier, group as group_known, some_group, known as goal_known, strategic as is_strategic, group_of};
 
-use game::goal::{Goal, Word};
+use game::goal::Goal;
 use game::system::System;
-
-// The only goal whose word this can be.
-pub fn goal_of(word: Word) -> Goal
-    ensures { result ≡ goal_of word }
-{
-    match word.a {
-        0 => Goal::True,
-        1 => Goal::Atom(word.b),
-        2 => Goal::Not(word.c),
-        3 => Goal::Or(word.c, word.d),
-        4 => Goal::And(word.c, word.d),
-        5 => Goal::Each(word.b, word.c),
-        6 => Goal::Common(word.b, word.c),
-        7 => Goal::Joint(word.b, word.c),
-        8 => Goal::Next(word.b, word.c),
-        9 => Goal::Always(word.b, word.c),
-        _ => Goal::Until(word.b, word.c, word.d),
-    }
-}
-
-fn goal_word(a: u8, b: u8, c: u8, d: u8) -> Word
-    ensures { result ≡ record { kind = 8; a = a; b = b; c = c; d = d } }
-{
-    Word {
-        kind: 8,
-        a,
-        b,
-        c,
-        d,
-    }
-}
-
-// The word of a goal: 0 in each field that the operator does not use.
-pub fn word_of(goal: Goal) -> Word
-    ensures { result ≡ word_of goal }
-{
-    match goal {
-        Goal::True => goal_word(0, 0, 0, 0),
-        Goal::Atom(p) => goal_word(1, p, 0, 0),
-        Goal::Not(c) => goal_word(2, 0, c, 0),
-        Goal::Or(c, d) => goal_word(3, 0, c, d),
-        Goal::And(c, d) => goal_word(4, 0, c, d),
-        Goal::Each(g, c) => goal_word(5, g, c, 0),
-        Goal::Common(g, c) => goal_word(6, g, c, 0),
-        Goal::Joint(g, c) => goal_word(7, g, c, 0),
-        Goal::Next(g, c) => goal_word(8, g, c, 0),
-        Goal::Always(g, c) => goal_word(9, g, c, 0),
-        Goal::Until(g, c, d) => goal_word(10, g, c, d),
-    }
-}
-
-fn is_same(x: Word, y: Word) -> bool
-    ensures { result ≡ same_word x y }
-{
-    x.kind == y.kind && x.a == y.a && x.b == y.b && x.c == y.c && x.d == y.d
-}
-
-// Whether a word is the word of a goal.
-pub fn is_goal(word: Word) -> bool
-    ensures { result ≡ same_word word (word_of (goal_of word)) }
-{
-    is_same(word, word_of(goal_of(word)))
-}
 
 // Whether the operands are among the first n goals.
 pub fn is_earlier(n: usize, goal: Goal) -> bool
