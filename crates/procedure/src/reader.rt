@@ -4,8 +4,9 @@ use game::goal::Word;
 use systems::agent::Agent;
 use systems::line::{Condition, Label, LocalState, Rule};
 
-// The numbers of the system word; the agents that are complete, and the product of the numbers of local states of the agents so far; of the agent under way its local states, masks and rule lines; the starts, label lines and goal words; of the line under
-// way its number (the next local state, or the atom), its conditions so far, and how many are to come.
+// The numbers of the system word; the agents that are complete, and the product of the numbers of local states of the agents so far; of
+// the agent under way its local states, masks and rule lines; the starts, label lines and goal words; of the line under way its number
+// (the next local state, or the atom), its conditions so far, and how many are to come.
 // The line under way stands beside the stage: in it, each clause and law that names a stage would name the line's numbers too.
 #[derive(Drop)]
 pub struct Reader {
