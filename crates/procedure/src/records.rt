@@ -35,8 +35,8 @@ fn line_fits(word: Word, limit: u8) -> bool
 
 // What the reader keeps at a stage stands in the contracts: a ghost field of it would have to hold after each assignment, and the masks of
 // an agent are taken out before the agent is pushed, which memory may be wanting for.
-// Rule lines and label lines have a method each: they differ in what a line becomes, where that goes and the stage after it, and one
-// generic line would share the two assignments at its start.
+// Rule lines and label lines have methods each: they differ in their conditions, what a line becomes, where that goes and the stage after
+// it, and one generic line would share the two assignments at its start and the count.
 impl Reader {
     pub(crate) fn system(&mut self, place: usize, word: Word) -> Result<(), Stop>
         requires at { self.old.stage ≡ stage.Begin }
