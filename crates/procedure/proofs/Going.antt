@@ -8,7 +8,7 @@ use Rattle.systems.specs.declared.agent.Agent.{Agent}
 use Rattle.procedure.specs.Texts.{agent_text, label_text, agents_words, starts_words, labels_words, system_word, ended, body, written}
 use Rattle.procedure.specs.Parts.{Part, Known, said, told, aimed, whole, Shown, known, sizes_at, product, wrong}
 use Rattle.procedure.specs.Faults.{Flawless, none, more, Faulty, Sound, fault_at, misfit, faulty}
-use Rattle.procedure.specs.Reader.{part, holds, Fresh, Ready, Taken, Took}
+use Rattle.procedure.specs.Reader.{part, holds, sizes_of, Fresh, Ready, Taken, Took}
 use Rattle.procedure.specs.Words.{words}
 use Rattle.procedure.specs.Reading.{ReadWords, Reads}
 use Rattle.procedure.specs.declared.reader.Reader.{Reader}
@@ -28,20 +28,20 @@ sizes_texts : (gs : List Agent) → map (λ g. g.locals) (map agent_text gs) ≡
 sizes_texts [] = refl
 sizes_texts (g ∷ gs) = ap (λ v. g.locals ∷ v) (sizes_texts gs)
 
-sizes_same : (s : Stage) (r : Reader) → Ready s r → sizes_at s (part r) ≡ vec_items r.sizes
-sizes_same stage.Begin r h = sym h.sizes
-sizes_same stage.Agents r h = sym h.1.sizes
-sizes_same stage.Protocols r h = ap (λ v. v ++ (r.locals ∷ [])) (sizes_texts (vec_items r.agents)) ∙ sym h.0.sizes
-sizes_same stage.Rules r h = ap (λ v. v ++ (r.locals ∷ [])) (sizes_texts (vec_items r.agents)) ∙ sym h.0.sizes
-sizes_same stage.RuleLine r h = ap (λ v. v ++ (r.locals ∷ [])) (sizes_texts (vec_items r.agents)) ∙ sym h.0.sizes
-sizes_same stage.Starts r h = sizes_texts (vec_items r.agents) ∙ sym h.0.sizes
-sizes_same stage.Labels r h = sizes_texts (vec_items r.agents) ∙ sym h.0.sizes
-sizes_same stage.LabelLine r h = sizes_texts (vec_items r.agents) ∙ sym h.0.sizes
-sizes_same stage.Goals r h = sizes_texts (vec_items r.agents) ∙ sym h.0.sizes
-sizes_same stage.Done r h = sizes_texts (vec_items r.agents) ∙ sym h.0.sizes
+sizes_same : (s : Stage) (r : Reader) → Ready s r → sizes_at s (part r) ≡ sizes_of s r
+sizes_same stage.Begin r h = refl
+sizes_same stage.Agents r h = sym (ap (map (λ (g : Agent). g.locals)) h.1.agents)
+sizes_same stage.Protocols r h = ap (λ v. v ++ (r.locals ∷ [])) (sizes_texts (vec_items r.agents))
+sizes_same stage.Rules r h = ap (λ v. v ++ (r.locals ∷ [])) (sizes_texts (vec_items r.agents))
+sizes_same stage.RuleLine r h = ap (λ v. v ++ (r.locals ∷ [])) (sizes_texts (vec_items r.agents))
+sizes_same stage.Starts r h = sizes_texts (vec_items r.agents)
+sizes_same stage.Labels r h = sizes_texts (vec_items r.agents)
+sizes_same stage.LabelLine r h = sizes_texts (vec_items r.agents)
+sizes_same stage.Goals r h = sizes_texts (vec_items r.agents)
+sizes_same stage.Done r h = sizes_texts (vec_items r.agents)
 
-states_same : (s : Stage) (r : Reader) → Ready s r → r.states ≡ product (vec_items r.sizes)
-states_same stage.Begin r h = h.states ∙ sym (ap product h.sizes)
+states_same : (s : Stage) (r : Reader) → Ready s r → r.states ≡ product (sizes_of s r)
+states_same stage.Begin r h = h.states
 states_same stage.Agents r h = h.0.sized.is
 states_same stage.Protocols r h = h.0.sized.is
 states_same stage.Rules r h = h.0.sized.is
@@ -55,7 +55,7 @@ states_same stage.Done r h = h.0.sized.is
 known_holds : (r : Reader) (place : ℕ) → Ready r.stage r → place ≡ length (said (part r)) → known (part r) ≡ holds place r
 known_holds r place ready counted =
     let make : List ℕ → ℕ → ℕ → ℕ → Known = λ z s m w. record { stage = r.stage; n = r.n; atoms = r.atoms; sizes = z; states = s; locals = r.locals; masks = m; words = w } in
-    let z = vec_items r.sizes in
+    let z = sizes_of r.stage r in
     let m = length (vec_items r.masks) in
     let w = length (said (part r)) in
     ap (λ v. make v (product v) m w) (sizes_same r.stage r ready)

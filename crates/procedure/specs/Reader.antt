@@ -1,5 +1,5 @@
 -- What the reader holds. Assumes nothing.
-use Rattle.std.specs.Prelude.{◌≡◌, ℕ, ◌<◌, ◌≤◌, true, ◌&&◌, ltb, List, [], ◌∷◌, ◌++◌, map, Option, Some, None, Ok, Err, vec_items, vec_len, Result, nat_lt}
+use Rattle.std.specs.Prelude.{◌≡◌, ℕ, ◌+◌, ◌<◌, ◌≤◌, true, ◌&&◌, ltb, List, [], ◌∷◌, ◌++◌, map, Option, Some, None, Ok, Err, vec_items, vec_len, Result, nat_lt}
 use Rattle.std.specs.Option.{option_map}
 use Rattle.game.specs.declared.goal.Word.{Word}
 use Rattle.std.specs.List.{list_all}
@@ -36,13 +36,33 @@ part r = record {
   left = r.left;
 }
 
+-- The number of local states of each agent that is complete, and with that of the agent under way.
+abbrev pub full_sizes : Reader → List ℕ
+full_sizes r = map (λ g. g.locals) (vec_items r.agents)
+
+abbrev pub own_sizes : Reader → List ℕ
+own_sizes r = full_sizes r ++ (r.locals ∷ [])
+
+-- The same at each stage, as many as there are.
+abbrev pub sizes_of : Stage → Reader → List ℕ
+sizes_of stage.Begin r = []
+sizes_of stage.Agents r = full_sizes r
+sizes_of stage.Protocols r = own_sizes r
+sizes_of stage.Rules r = own_sizes r
+sizes_of stage.RuleLine r = own_sizes r
+sizes_of stage.Starts r = full_sizes r
+sizes_of stage.Labels r = full_sizes r
+sizes_of stage.LabelLine r = full_sizes r
+sizes_of stage.Goals r = full_sizes r
+sizes_of stage.Done r = full_sizes r
+
 -- What the next word is judged by, as the reader holds it, after so many words.
 abbrev pub holds : ℕ → Reader → Known
 holds words r = record {
   stage = r.stage;
   n = r.n;
   atoms = r.atoms;
-  sizes = vec_items r.sizes;
+  sizes = sizes_of r.stage r;
   states = r.states;
   locals = r.locals;
   masks = vec_len r.masks;
@@ -89,7 +109,6 @@ Unbegun r = Idle (vec_items r.masks) (vec_items r.rules) (vec_items r.tests)
 -- Before the first agent.
 pub record Fresh (r : Reader) : Type 0 where
   pub agents : vec_items r.agents ≡ []
-  pub sizes : vec_items r.sizes ≡ []
   pub states : r.states ≡ 1
   pub idle : Unbegun r
   pub later : Unread r
@@ -97,25 +116,22 @@ pub record Fresh (r : Reader) : Type 0 where
 -- No agent is under way.
 pub record Between (r : Reader) : Type 0 where
   pub numbered : Numbered r.n r.atoms
-  pub sized : Sized (vec_items r.sizes) r.states
-  pub sizes : vec_items r.sizes ≡ map (λ g. g.locals) (vec_items r.agents)
+  pub sized : Sized (full_sizes r) r.states
   pub idle : Unbegun r
   pub later : Unread r
 
 -- An agent is under way.
 pub record Within (r : Reader) : Type 0 where
   pub numbered : Numbered r.n r.atoms
-  pub sized : Sized (vec_items r.sizes) r.states
-  pub sizes : vec_items r.sizes ≡ map (λ g. g.locals) (vec_items r.agents) ++ (r.locals ∷ [])
-  pub count : vec_len r.sizes ≤ r.n
+  pub sized : Sized (own_sizes r) r.states
+  pub count : vec_len r.agents + 1 ≤ r.n
   pub draft : Draft r.locals (vec_items r.masks) (vec_items r.rules)
   pub later : Unread r
 
 -- All agents are complete.
 pub record Complete (r : Reader) : Type 0 where
   pub numbered : Numbered r.n r.atoms
-  pub sized : Sized (vec_items r.sizes) r.states
-  pub sizes : vec_items r.sizes ≡ map (λ g. g.locals) (vec_items r.agents)
+  pub sized : Sized (full_sizes r) r.states
   pub all : vec_len r.agents ≡ r.n
   pub known : list_all (λ s. ltb s r.states) (vec_items r.starts) ≡ true
   pub aims : Aims (vec_items r.goals)
@@ -136,9 +152,8 @@ Ready stage.Done r = Complete r × (0 < vec_len r.starts)
 -- The agent under way is complete.
 pub record Finished (r r' : Reader) : Type 0 where
   pub between : Between r'
-  pub all : vec_len r'.agents ≡ vec_len r.sizes
+  pub all : vec_len r'.agents ≡ vec_len r.agents + 1
   pub n : r'.n ≡ r.n
-  pub sizes : vec_len r'.sizes ≡ vec_len r.sizes
   pub states : r'.states ≡ r.states
   pub says : heads (part r') ≡ ruled (part r)
 

@@ -4,16 +4,16 @@ use game::goal::Word;
 use systems::agent::Agent;
 use systems::line::{Condition, Label, LocalState, Rule};
 
-// The numbers of the system word; the agents that are complete, and the number of local states of each agent so far, with their
-// product; of the agent under way its local states, masks and rule lines; the starts, label lines and goal words; of the line under
-// way its number (the next local state, or the atom), its conditions so far, and how many are to come.
+// The numbers of the system word; the agents that are complete, and the product of the numbers of local states of the agents so far; of
+// the agent under way its local states, masks and rule lines; the starts, label lines and goal words; of the line under way its number
+// (the next local state, or the atom), its conditions so far, and how many are to come.
+// The line under way stands beside the stage: in it, each clause and law that names a stage would name the line's numbers too.
 #[derive(Drop)]
 pub struct Reader {
     pub stage: Stage,
     pub n: u8,
     pub atoms: u8,
     pub agents: Vec<Agent>,
-    pub sizes: Vec<u8>,
     pub states: u16,
     pub locals: u8,
     pub masks: Vec<u8>,

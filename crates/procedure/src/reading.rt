@@ -65,7 +65,6 @@ fn fresh(heap: Global) -> Reader
         n: 0,
         atoms: 0,
         agents: Vec::new(heap),
-        sizes: Vec::new(heap),
         states: 1,
         locals: 0,
         masks: Vec::new(heap),

@@ -1,7 +1,7 @@
 // The readers of records.
 ghost use Rattle.std.specs.Prelude.{◌≡◌, ◌+◌, ◌<◌, true, false, [], length, vec_len, None, MatchOption, MatchResult, slice_index};
 ghost use Rattle.procedure.specs.Parts.{told, heads, begun, ruled, labelled, aimed, judged, unnamed, system_fits, agent_fits, protocol_fits, line_fits, test_fits, want_fits, start_fits, crowded, miscounted};
-ghost use Rattle.procedure.specs.Reader.{part, Took, Ready, Within, Between, Complete, Finished, ClosedRule, ClosedLabel};
+ghost use Rattle.procedure.specs.Reader.{part, full_sizes, own_sizes, Took, Ready, Within, Between, Complete, Finished, ClosedRule, ClosedLabel};
 ghost use Rattle.procedure.specs.Texts.{condition_word};
 ghost use Rattle.procedure.specs.declared.stage.Stage.TheVariants as stage;
 ghost use Rattle.game.specs.declared.fault.Stop.TheVariants.{Memory};
@@ -33,6 +33,10 @@ fn line_fits(word: Word, limit: u8) -> bool
     word.a <= 8 && word.d < limit
 }
 
+// What the reader keeps at a stage stands in the contracts: a ghost field of it would have to hold after each assignment, and the masks of
+// an agent are taken out before the agent is pushed, which memory may be wanting for.
+// Rule lines and label lines have methods each: they differ in their conditions, what a line becomes, where that goes and the stage after
+// it, and one generic line would share the two assignments at its start and the count.
 impl Reader {
     pub(crate) fn system(&mut self, place: usize, word: Word) -> Result<(), Stop>
         requires at { self.old.stage ≡ stage.Begin }
@@ -54,14 +58,14 @@ impl Reader {
     pub(crate) fn agent(&mut self, place: usize, word: Word) -> Result<(), Stop>
         requires kind { word.kind ≡ 2 }
         requires between { Between self.old }
-        requires more { vec_len self.old.sizes < self.old.n }
+        requires more { vec_len self.old.agents < self.old.n }
         ensures { Took (heads (part self.old)) word place
-            (judged (word.a + word.d) (agent_fits (vec_len self.old.sizes) word) (crowded self.old.states word)) result self.new }
+            (judged (word.a + word.d) (agent_fits (vec_len self.old.agents) word) (crowded self.old.states word)) result self.new }
     {
         unused(place, word.a, word.d)?;
         ranged(
             place,
-            word.b as usize == self.sizes.len() && word.c > 0 && word.c < 17,
+            usize::from(word.b) == self.agents.len() && word.c > 0 && word.c < 17,
         )?;
         let states = self.states as u32 * word.c as u32;
         if states > 1024 {
@@ -70,7 +74,6 @@ impl Reader {
                 place,
             }));
         }
-        self.sizes.push(word.c)?;
         self.states = states as u16;
         self.locals = word.c;
         self.stage = Stage::Protocols;
@@ -140,7 +143,7 @@ impl Reader {
         requires kind { word.kind ≡ 5 }
         requires ready { Ready stage.RuleLine self.old }
         ensures { Took (told stage.RuleLine (part self.old)) word place
-            (judged (word.c + unnamed word) (test_fits self.old.locals (slice_index self.old.sizes.items 0) self.old.n word) None)
+            (judged (word.c + unnamed word) (test_fits self.old.locals (slice_index (own_sizes self.old) 0) self.old.n word) None)
             result self.new }
     {
         unused(place, word.c, idle(word))?;
@@ -156,15 +159,23 @@ impl Reader {
         Ok(())
     }
 
+    // How many local states agent 0 has, who may be the one under way.
+    fn first(&self) -> u8
+        ensures { result ≡ slice_index (own_sizes self.now) 0 }
+    {
+        self.agents
+            .first()
+            .map_or(self.locals, |agent| agent.locals)
+    }
+
     // The condition of a rule line that a word says, where its numbers are in their ranges.
     fn test(&self, word: Word) -> Option<Condition>
-        requires { 0 < vec_len self.now.sizes }
-        ensures { MatchOption result (test_fits self.now.locals (slice_index self.now.sizes.items 0) self.now.n word ≡ false)
-            (λ t. (test_fits self.now.locals (slice_index self.now.sizes.items 0) self.now.n word ≡ true) × (word.kind ≡ 5 → word.c + unnamed word ≡ 0 → condition_word t ≡ word)) }
+        ensures { MatchOption result (test_fits self.now.locals (slice_index (own_sizes self.now) 0) self.now.n word ≡ false)
+            (λ t. (test_fits self.now.locals (slice_index (own_sizes self.now) 0) self.now.n word ≡ true) × (word.kind ≡ 5 → word.c + unnamed word ≡ 0 → condition_word t ≡ word)) }
     {
         match word.a {
             0 if word.d < self.locals => Some(Condition::Own(word.d)),
-            1 if word.d < self.sizes[0] => Some(Condition::First(word.d)),
+            1 if word.d < self.first() => Some(Condition::First(word.d)),
             2 if word.b < self.n && word.d < 4 => Some(Condition::Action(word.b, word.d)),
             _ => None,
         }
@@ -189,9 +200,9 @@ impl Reader {
     pub(crate) fn next_agent(&mut self, heap: Global, place: usize, word: Word) -> Result<(), Stop>
         requires kind { word.kind ≡ 2 }
         requires ready { Ready stage.Rules self.old }
-        requires more { vec_len self.old.sizes < self.old.n }
+        requires more { vec_len self.old.agents + 1 < self.old.n }
         ensures { Took (ruled (part self.old)) word place
-            (judged (word.a + word.d) (agent_fits (vec_len self.old.sizes) word) (crowded self.old.states word)) result self.new }
+            (judged (word.a + word.d) (agent_fits (vec_len self.old.agents + 1) word) (crowded self.old.states word)) result self.new }
     {
         self.finish(heap)?;
         self.agent(place, word)
@@ -201,7 +212,7 @@ impl Reader {
     pub(crate) fn first_start(&mut self, heap: Global, place: usize, word: Word) -> Result<(), Stop>
         requires kind { word.kind ≡ 6 }
         requires ready { Ready stage.Rules self.old }
-        requires last { vec_len self.old.sizes ≡ self.old.n }
+        requires last { vec_len self.old.agents + 1 ≡ self.old.n }
         ensures { Took (ruled (part self.old)) word place
             (judged (word.a + word.b) (start_fits self.old.states word) None) result self.new }
     {
@@ -254,7 +265,7 @@ impl Reader {
         requires kind { word.kind ≡ 5 }
         requires ready { Ready stage.LabelLine self.old }
         ensures { Took (told stage.LabelLine (part self.old)) word place
-            (judged (word.c + unnamed word) (want_fits self.old.sizes.items word) None) result self.new }
+            (judged (word.c + unnamed word) (want_fits (full_sizes self.old) word) None) result self.new }
     {
         unused(place, word.c, idle(word))?;
         let want = self.want(word).ok_or(Fault {
@@ -272,12 +283,15 @@ impl Reader {
     // The condition of a label line that a word says, where its numbers are in their ranges. An agent that there is not has no local
     // states.
     fn want(&self, word: Word) -> Option<LocalState>
-        ensures { MatchOption result (want_fits self.now.sizes.items word ≡ false)
-            (λ t. (want_fits self.now.sizes.items word ≡ true) × (t ≡ record { agent = word.b; value = word.d })) }
+        ensures { MatchOption result (want_fits (full_sizes self.now) word ≡ false)
+            (λ t. (want_fits (full_sizes self.now) word ≡ true) × (t ≡ record { agent = word.b; value = word.d })) }
     {
         let agent = word.b;
         let value = word.d;
-        let size = self.sizes.get(usize::from(agent)).copied().unwrap_or(0);
+        let size = self
+            .agents
+            .get(usize::from(agent))
+            .map_or(0, |agent| agent.locals);
         (word.a == 3 && value < size).then_some(LocalState { agent, value })
     }
 

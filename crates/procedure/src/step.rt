@@ -22,9 +22,9 @@ impl Reader {
             (Stage::Agents, Ok(Kind::Agent)) => self.agent(place, word),
             (Stage::Protocols, Ok(Kind::Protocol)) => self.protocol(place, word),
             (Stage::Rules, Ok(Kind::Rule)) => self.rule(heap, place, word),
-            (Stage::Rules, Ok(Kind::Agent)) if self.sizes.len() < self.n as usize =>
+            (Stage::Rules, Ok(Kind::Agent)) if self.agents.len() + 1 < usize::from(self.n) =>
                 self.next_agent(heap, place, word),
-            (Stage::Rules, Ok(Kind::Start)) if self.sizes.len() == self.n as usize =>
+            (Stage::Rules, Ok(Kind::Start)) if self.agents.len() + 1 == usize::from(self.n) =>
                 self.first_start(heap, place, word),
             (Stage::RuleLine, Ok(Kind::Condition)) => self.rule_condition(heap, place, word),
             (Stage::Starts, Ok(Kind::Start)) => self.start(place, word),

@@ -19,7 +19,7 @@ use game::system::System;
 pub fn open<'a>(lists: &Lists<'a>) -> Game<'a>
     ensures { listed_meaning result.lists ≡ (if accepted lists.now then listed_meaning lists.now else empty_game) }
 {
-    if let Err(_) = check(lists) {
+    if check(lists).is_err() {
         return empty_game();
     }
     walk_looks(lists.looks);

@@ -1,9 +1,9 @@
-use Rattle.std.proofs.Common.{◌≡◌, ℕ, Bool, false, not, List, Some, is_some, sym, ap, ◌∙◌}
-use Rattle.std.proofs.lemmas.Bool.{and_left, and_right, not_from_true, cond-false}
+use Rattle.std.proofs.Common.{Result, Ok, Err, is_ok, ◌≡◌, ℕ, Bool, false, not, List, Some, is_some, sym, ap, ◌∙◌}
+use Rattle.std.proofs.lemmas.Bool.{and_left, and_right, not_from_true, cond-true, cond-false}
 use Rattle.game.specs.declared.fault.Fault.{Fault}
 use Rattle.std.specs.List.{list_any, position}
 use Rattle.systems.specs.Empty.{empty_game}
-use Rattle.systems.specs.Lists.{shaped, bad_mask, bad_mark, bad_move, accepted, listed_meaning, Broken, misshaped, masked, marked, moved, startless}
+use Rattle.systems.specs.Lists.{shaped, bad_mask, bad_mark, bad_move, accepted, listed_meaning, Checked, Broken, misshaped, masked, marked, moved, startless}
 use Rattle.systems.specs.lemmas.Given.{some_first}
 use Rattle.systems.specs.declared.lists.Lists.{Lists}
 use Rattle.systems.proofs.listed_system.open.Goals as goal
@@ -26,7 +26,16 @@ refused y _ (startless on none none' none'' off) =
     (and_right (not (list_any (bad_mark y.atoms) y.marks.now)) _
     (and_right (not (list_any (bad_move y.states) y.moves.now)) _ off)))
 
-pub returns-in-Err : goal.returns-in-Err
-returns-in-Err c =
+decided : (y : Lists) (r : Result (Unit {0}) Fault) → Checked y r → accepted y ≡ is_ok r
+decided y (Ok v) ok = ok
+decided y (Err f) broken = refused y f broken
+
+pub returns-then-is_err : goal.returns-then-is_err
+returns-then-is_err c =
     let y = c.args.lists.now in
-    c.empty_game.ensures ∙ sym (cond-false (accepted y) (listed_meaning y) empty_game (refused y c.in-Err.field-0 c.in-Err.ensures))
+    c.empty_game.ensures ∙ sym (cond-false (accepted y) (listed_meaning y) empty_game (decided y c.check.result c.check.ensures ∙ c.if-is_err.ensures.negation))
+
+pub returns : goal.returns
+returns c =
+    let y = c.args.lists.now in
+    sym (cond-true (accepted y) (listed_meaning y) empty_game (decided y c.check.result c.check.ensures ∙ c.if-is_err.ensures.negation))

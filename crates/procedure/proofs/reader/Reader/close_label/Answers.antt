@@ -21,7 +21,7 @@ returns c =
     record {
       at = refl;
       ready = (
-        record { numbered = h.numbered; sized = h.sized; sizes = h.sizes; all = h.all; known = h.known; aims = h.aims },
+        record { numbered = h.numbered; sized = h.sized; all = h.all; known = h.known; aims = h.aims },
         c.requires.begins,
         some,
         c.requires.goals,

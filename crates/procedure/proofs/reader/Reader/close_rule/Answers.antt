@@ -27,7 +27,6 @@ returns c =
         record {
           numbered = h.numbered;
           sized = h.sized;
-          sizes = h.sizes;
           count = h.count;
           draft = record {
             one = h.draft.one;

@@ -1,10 +1,10 @@
-use Rattle.std.proofs.Common.{◌≡◌, ℕ, [], ◌∷◌, ◌++◌, map, length, vec_items, vec_len, Vec, sym, refl, ap, ◌∙◌, arith}
-use lib.ListN.{length-map}
-use Rattle.std.proofs.lemmas.List.{map-append, length_push}
+use Rattle.std.proofs.Common.{◌≡◌, ℕ, ◌+◌, [], ◌∷◌, ◌++◌, map, vec_items, vec_len, Vec, sym, refl, ap, ◌∙◌}
+use Rattle.std.proofs.lemmas.List.{map-append}
 use Rattle.std.specs.declared.alloc.Global.{Global}
 use Rattle.systems.specs.declared.agent.Agent.{Agent}
 use Rattle.systems.specs.declared.line.Rule.{Rule}
 use Rattle.procedure.specs.Texts.{AgentText, agent_text, rule_text, system_word}
+use Rattle.procedure.specs.Parts.{product}
 use Rattle.procedure.proofs.Says.{agent_done}
 use Rattle.procedure.proofs.reader.Reader.finish.Goals as goal
 
@@ -16,13 +16,13 @@ returns c =
     let more = c.in_ok-push.ensures.items in
     let g : AgentText = record { locals = r.locals; masks = vec_items r.masks; rules = map rule_text (vec_items r.rules) } in
     let the : Vec ℕ Global → Vec Rule Global → AgentText = λ ms rs. record { locals = r.locals; masks = vec_items ms; rules = map rule_text (vec_items rs) } in
-    let count : vec_len c.push.new.self ≡ vec_len r.sizes =
-    omega (arith, c.in_ok-push.ensures.len, r.sizes.ok.0, r.agents.ok.0, ap length h.sizes, length_push (map (λ (v : Agent). v.locals) gs) r.locals, length-map gs (λ (v : Agent). v.locals)) in
+    let count : vec_len c.push.new.self ≡ vec_len r.agents + 1 = c.in_ok-push.ensures.len in
+    let full : map (λ (v : Agent). v.locals) (vec_items c.push.new.self) ≡ map (λ (v : Agent). v.locals) gs ++ (r.locals ∷ []) =
+    ap (map (λ (v : Agent). v.locals)) more ∙ map-append (λ (v : Agent). v.locals) gs _ in
     record {
       between = record {
         numbered = h.numbered;
-        sized = h.sized;
-        sizes = h.sizes ∙ sym (ap (map (λ (v : Agent). v.locals)) more ∙ map-append (λ (v : Agent). v.locals) gs _);
+        sized = record { is = h.sized.is ∙ ap product (sym full); small = h.sized.small };
         idle = record {
           masks = ap vec_items c.replace-masks.ensures.after ∙ c.new.ensures.items;
           rules = ap vec_items c.replace-rules.ensures.after ∙ c.new-2.ensures.items;
@@ -32,7 +32,6 @@ returns c =
       };
       all = count;
       n = refl;
-      sizes = refl;
       states = refl;
       says = agent_done (system_word r.n r.atoms) (map agent_text gs) (map agent_text (vec_items c.push.new.self)) g
           (ap (map agent_text) more ∙ map-append agent_text gs _

@@ -1,5 +1,4 @@
-use Rattle.std.proofs.Common.{vec_items, sym, ap, ◌∙◌, arith}
-use Rattle.procedure.specs.Parts.{product}
+use Rattle.std.proofs.Common.{vec_items, sym, ◌∙◌, arith}
 use Rattle.procedure.proofs.Every.{product_agents}
 use Rattle.procedure.proofs.reader.Reader.procedure.Goals as goal
 
@@ -10,7 +9,7 @@ invariant_of-system c =
     record {
       some = omega (arith, h.all, h.numbered.some);
       few = omega (arith, h.all, h.numbered.few);
-      counted = product_agents (vec_items r.agents) ∙ ap product (sym h.sizes) ∙ sym h.sized.is;
+      counted = product_agents (vec_items r.agents) ∙ sym h.sized.is;
       small = h.sized.small;
       named = h.numbered.named;
       begins = c.requires.1;

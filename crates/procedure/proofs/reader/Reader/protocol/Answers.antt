@@ -29,7 +29,6 @@ returns-then-len-self c =
         record {
           numbered = h.numbered;
           sized = h.sized;
-          sizes = h.sizes;
           count = h.count;
           draft = record {
             one = h.draft.one;
@@ -64,7 +63,6 @@ returns-else-len-self c =
         record {
           numbered = h.numbered;
           sized = h.sized;
-          sizes = h.sizes;
           count = h.count;
           draft = record {
             one = h.draft.one;
