@@ -1,5 +1,5 @@
 // A board, by what it means: a set of states for each of its rows.
-ghost use Rattle.std.specs.Prelude.{◌≡◌, ℕ, ◌<◌, ◌≤◌, true, false, vec_len, IfOk};
+ghost use Rattle.std.specs.Prelude.{◌≡◌, ℕ, ◌<◌, ◌≤◌, min, true, false, vec_len, IfOk};
 ghost use Rattle.boards.specs.Meaning.{Rows, Sound, with_mark, wiped, blank, fresh, whole_rows};
 
 use std::alloc::{AllocError, Global};
@@ -38,10 +38,9 @@ pub trait InMemory: Board {
     // the places of a row, by the number of states
     ghost width: { ℕ → ℕ };
 
-    // No board has more than 1,024 states.
+    // No board has more than 1,024 states: the places of a row for as many, where there are more.
     fn width(states: usize) -> usize
-        requires { states ≤ 1024 }
-        ensures is { result ≡ width states }
+        ensures is { result ≡ width (min states 1024) }
         ensures some { 1 ≤ result }
         ensures few { result ≤ 1025 };
 
@@ -54,7 +53,7 @@ pub trait InMemory: Board {
 pub fn fresh<B: InMemory>(heap: Global, states: usize) -> Result<B, AllocError>
     ensures { IfOk result (λ b. B.Board.shows b ≡ fresh states) }
 {
-    let width = B::width(states.min(1024));
+    let width = B::width(states);
     let memory = vec![in heap; B::Place::default(); 64 * width]?;
     Ok(B::new(states, memory))
 }

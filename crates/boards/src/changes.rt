@@ -49,7 +49,7 @@ impl InMemory for ChangeBoard {
     ghost width = { λ n. n + 1 };
 
     fn width(states: usize) -> usize {
-        states + 1
+        states.min(1024) + 1
     }
 
     fn new(states: usize, memory: Vec<u16>) -> Self

@@ -8,17 +8,10 @@ use Rattle.game.specs.Formulas.{Aims}
 use Rattle.game.specs.declared.fault.Fault.{Fault}
 use Rattle.game.specs.declared.goal.Goal.{Goal}
 use Rattle.arenas.specs.declared.entry.Entry.{Entry}
-use Rattle.plans.specs.Drawing.{granted_in, rank_in, choice_in, Drawn}
+use Rattle.plans.specs.Drawing.{granted_in, rank_in, choice_in}
 use Rattle.law.specs.Worlds.{Model, goal_at}
 use Rattle.law.specs.declared.call.Call.TheVariants.{Plan}
 use Rattle.cases.specs.Shows.{Permits}
-
--- The entries are the sheet of X, G or U over the sets R of its operands.
-pub record DrawnFor (M : Meaning) (R : ℕ → States) (φ : Goal) (es : List Entry) : Type 0 where
-  pub group : ℕ
-  pub objective : Objective
-  pub aims : Aims R φ group objective
-  pub drawn : Drawn M group objective es
 
 -- The first test of plan that holds, or the goal, which is X, G or U.
 abbrev pub Plannable : Meaning → ℕ → Model → ℕ → Result Goal Fault → Type 0

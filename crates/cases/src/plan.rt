@@ -1,10 +1,9 @@
 // Plan and move.
-ghost use Rattle.std.specs.Prelude.{◌≡◌, true, IfOk, slice_index_or};
-ghost use Rattle.game.specs.Goals.{strategic};
+ghost use Rattle.std.specs.Prelude.{◌≡◌, slice_index_or};
 ghost use Rattle.arenas.specs.Notes.{blank};
 ghost use Rattle.law.specs.declared.call.Call.TheVariants.{Plan, Move};
 ghost use Rattle.cases.specs.Shows.{model, Calls, advised, Tries};
-ghost use Rattle.cases.specs.Planning.{DrawnFor, Plannable};
+ghost use Rattle.cases.specs.Planning.{Plannable};
 
 use crate::advice::Advice;
 use crate::calls::goal_at;
@@ -15,44 +14,9 @@ use boards::Board;
 use game::fault::{Fault, Reason, Stop};
 use game::goal::Goal;
 use game::system::System;
-use goals::evaluate::row_flags;
+use goals::evaluate::planned;
 use goals::word::is_strategic;
-use plans::objective::Objective;
-use plans::plan::draw;
-use std::alloc::{AllocError, Global};
-
-// The plan of X, G or U over the rows of its operands.
-fn draw_goal<S: System, B: Board>(
-    heap: Global,
-    system: &S,
-    board: &B,
-    goal: Goal,
-) -> Result<Vec<Entry>, AllocError>
-    requires { strategic goal ≡ true }
-    ensures { IfOk result (λ v. DrawnFor (S.System.means system.now) (B.Board.shows board.now).marked goal v.items) }
-{
-    match goal {
-        Goal::Next(group, c) => {
-            let c = row_flags(heap, board, c as usize)?;
-            draw(heap, system, group, Objective::Next(c.as_slice()))
-        }
-        Goal::Always(group, c) => {
-            let c = row_flags(heap, board, c as usize)?;
-            draw(heap, system, group, Objective::Always(c.as_slice()))
-        }
-        Goal::Until(group, c, d) => {
-            let c = row_flags(heap, board, c as usize)?;
-            let d = row_flags(heap, board, d as usize)?;
-            draw(
-                heap,
-                system,
-                group,
-                Objective::Until(c.as_slice(), d.as_slice()),
-            )
-        }
-        _ => unreachable(),
-    }
-}
+use std::alloc::Global;
 
 // What a sheet has of a state; past its end nothing is granted.
 pub(crate) fn entry_at(entries: &[Entry], state: usize) -> Entry
@@ -96,8 +60,10 @@ impl<S: System, B: Board> Case<S, B> {
         ensures out { self.new.out ≡ self.old.out }
     {
         let wanted = self.plannable(goal)?;
-        let entries = draw_goal(heap, &self.system, &self.board, wanted)?;
-        self.sheet = Some(Sheet { goal, entries });
+        match planned(heap, &self.system, &self.board, wanted)? {
+            Some(entries) => self.sheet = Some(Sheet { goal, entries }),
+            None => unreachable!(),
+        }
         Ok(())
     }
 

@@ -22,5 +22,4 @@ pub returns : goal.returns
 returns g c =
     let width = g.B.InMemory.width in
     let n = c.args.states in
-    let place : c.width-width.result ≡ width (min n 1024) = c.width-width.ensures.is ∙ ap width c.min.ensures in
-    c.new.ensures ∙ ap (blank n) (full width n _ (omega (arith, c.width-width.ensures.some)) (c.in_ok-memory.ensures.len ∙ ap (λ k. 64 * k) place))
+    c.new.ensures ∙ ap (blank n) (full width n _ (omega (arith, c.width-width.ensures.is, c.width-width.ensures.some)) (c.in_ok-memory.ensures.len ∙ ap (λ k. 64 * k) c.width-width.ensures.is))
