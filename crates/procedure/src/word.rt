@@ -25,7 +25,7 @@ pub fn split_word(bytes: &[u8]) -> Option<(Word, &[u8])>
 }
 
 // The words of a file, from its start.
-#[derive(Clone, Copy)]
+#[derive(Drop)]
 pub struct Words<'a>(pub &'a [u8]);
 
 impl<'a> Iterator for Words<'a> {
