@@ -3,9 +3,10 @@
 
 pub mod arena;
 mod best;
+pub mod contest;
 pub mod entry;
 mod fast;
-mod reads;
+mod moves;
 pub mod settle;
 pub mod sheet;
 pub mod turn;

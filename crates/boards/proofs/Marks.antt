@@ -1,7 +1,7 @@
 -- What a write of one word does to the rows. Assumes nothing.
 use Rattle.std.proofs.Common.{◌≡◌, ℕ, ◌+◌, ◌-◌, ◌*◌, ◌/◌, ◌%◌, ◌^◌, ◌<◌, ◌≤◌, Bool, true, false, cond, ◌&&◌, ◌||◌, eqb, ltb, leb, ◌⊎◌, List, length, get_or, take, drop, set, replicate, sym, refl, ap, ◌∙◌, inl, inr, ⊎_elim, arith}
 use native.Mathlib.Nat.{div_self, div-eq_of_lt}
-use borrow.Rule.Slice.PartMut.{put_mid}
+use borrow.Rule.Slice.PartMut.{put_mid, same_len_mid}
 use lib.Bits.{bit_or, bit_xor, bit_and}
 use Rattle.std.proofs.lemmas.Nat.{or_shr, or_mod, xor_shr, xor_mod, pow_pos, pow-add, pow_below, shl-shr, one_shl, and_mask}
 use Rattle.std.proofs.lemmas.Bool.{cases_order, cases_eq, eq-eqb, ne_eqb, cond-true, cond-false, and_right, cases_lt}
@@ -157,6 +157,9 @@ cleared_words ws ys a le e i =
 
     size : length ys ≡ 16
     size = ap length e ∙ length-replicate _ 0 ∙ long
+
+pub cleared_len : (ws ys : List ℕ) (a : ℕ) → ys ≡ replicate (length (take (a + 16 - a) (drop a ws))) 0 → length (put_mid a (a + 16 - a) ws ys) ≡ length ws
+cleared_len ws ys a e = same_len_mid a (a + 16 - a) ws ys (ap length e ∙ length-replicate _ 0)
 
 -- row r has no bits, and the others are as they were
 pub rows_wiped : (ws vs : List ℕ) (n h r : ℕ) → n ≤ 1024 →

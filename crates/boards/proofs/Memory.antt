@@ -1,6 +1,6 @@
 -- Rows in one memory: what a write to one row leaves. Assumes nothing.
-use Rattle.std.proofs.Common.{◌≡◌, ℕ, ◌+◌, ◌-◌, ◌*◌, ◌/◌, ◌%◌, ◌<◌, ◌≤◌, min, Bool, false, cond, ◌&&◌, eqb, ltb, leb, ◌⊎◌, List, length, get_or, take, drop, replicate, sym, ap, ◌∙◌, subst, inl, inr, ⊎_elim, mul-le-mul_right, add-mul, one-mul, div-mul-le_self, arith}
-use borrow.Rule.Slice.PartMut.{put_mid}
+use Rattle.std.proofs.Common.{◌≡◌, ℕ, ◌+◌, ◌-◌, ◌*◌, ◌/◌, ◌%◌, ◌<◌, ◌≤◌, min, Bool, false, cond, ◌&&◌, eqb, ltb, leb, ◌⊎◌, List, length, get_or, take, drop, replicate, sym, ap, ap₂, ◌∙◌, subst, subst₂, inl, inr, ⊎_elim, mul-le-mul_right, add-mul, one-mul, div-mul-le_self, arith}
+use borrow.Rule.Slice.PartMut.{mid_of, put_mid, same_len_mid}
 use Rattle.std.specs.List.{between}
 use Rattle.std.proofs.lemmas.Bool.{cases_lt, cases_eq, cases_order, lt-leb, and_right, cond-false}
 use Rattle.std.proofs.lemmas.List.{length-replicate, get_or-replicate, get_or_past, ext_get_or}
@@ -40,6 +40,25 @@ row_other ps ys n r q le size ne =
 
 pub length_row : (ps : List ℕ) (n r : ℕ) → r * (n + 1) + (n + 1) ≤ length ps → length (row_at ps n r) ≡ n + 1
 length_row ps n r le = length-between ps (r * (n + 1)) (r * (n + 1) + (n + 1)) le ∙ omega arith
+
+-- the memory after the row was written as ys
+pub record Wrote (ps ys : List ℕ) (n r : ℕ) (qs : List ℕ) : Type 0 where
+  pub long : length qs ≡ length ps
+  pub here : row_at qs n r ≡ ys
+  pub others : (q : ℕ) → (q ≡ r → ⊥) → row_at qs n q ≡ row_at ps n q
+
+pub wrote : (ps ys : List ℕ) (n r from to : ℕ) → from ≡ r * (n + 1) → to ≡ r * (n + 1) + (n + 1) → to ≤ length ps → length ys ≡ to - from →
+    Wrote ps ys n r (put_mid from (to - from) ps ys)
+wrote ps ys n r from to a b =
+    subst₂ (λ x y. y ≤ length ps → length ys ≡ y - x → Wrote ps ys n r (put_mid x (y - x) ps ys)) (sym a) (sym b)
+    (λ le size. record {
+      long = same_len_mid (r * (n + 1)) (r * (n + 1) + (n + 1) - r * (n + 1)) ps ys (omega (arith, size, length_row ps n r le));
+      here = row_here ps ys n r le size;
+      others = λ q ne. row_other ps ys n r q le size ne;
+    })
+
+pub span_is : (ps : List ℕ) (n r from to : ℕ) → from ≡ r * (n + 1) → to ≡ r * (n + 1) + (n + 1) → mid_of from (to - from) ps ≡ row_at ps n r
+span_is ps n r from to a b = ap₂ (λ x y. mid_of x (y - x) ps) a b
 
 -- a row of the board lies in its memory
 pub inside : (n size h r : ℕ) → h ≡ whole_rows n (n + 1) size → r < h → (n ≤ 1024) × (r * (n + 1) + (n + 1) ≤ size)

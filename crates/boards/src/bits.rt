@@ -4,7 +4,7 @@ ghost use Rattle.boards.specs.Meaning.{blank, whole_rows};
 ghost use Rattle.boards.specs.Bits.{mark_of, bit_rows};
 ghost use Rattle.boards.specs.Owed.{framed_sound};
 
-use crate::board::{Board, height_of};
+use crate::board::{Board, InMemory, height_of};
 
 #[derive(Drop)]
 pub struct BitBoard {
@@ -14,17 +14,16 @@ pub struct BitBoard {
     ghost fits: { height ≡ whole_rows count 16 (vec_len words) },
 }
 
-// Empties 16 words.
-fn clear_words(words: &mut [u64], from: usize)
-    requires { from + 16 ≤ length words.old }
-    ensures { (i : ℕ) → slice_index words.new i ≡ (if nat_le from i && nat_lt i (from + 16) then 0 else slice_index words.old i) }
-{
-    words[from..from + 16].fill(0);
-}
+impl InMemory for BitBoard {
+    type Place = u64;
 
-impl BitBoard {
-    // A board of so many states in the memory handed in, without marks.
-    pub fn new(states: usize, memory: Vec<u64>) -> Self
+    ghost width = { λ _. 16 };
+
+    fn width(_: usize) -> usize {
+        16
+    }
+
+    fn new(states: usize, memory: Vec<u64>) -> Self
         ensures { bit_rows result.words.items result.count result.height ≡ blank states (whole_rows states 16 (vec_len memory)) }
     {
         let mut words = memory;
@@ -79,7 +78,8 @@ impl Board for BitBoard {
 
     fn wipe(&mut self, row: usize) {
         if row < self.height {
-            clear_words(&mut self.words, row * 16);
+            let from = row * 16;
+            self.words[from..from + 16].fill(0);
         }
     }
 }

@@ -1,11 +1,12 @@
 // The board of change points: n + 1 numbers to a row, the rising states where membership changes, then n.
-ghost use Rattle.std.specs.Prelude.{◌≡◌, ℕ, ◌+◌, ◌<◌, ◌≤◌, vec_len, slice_index};
+ghost use Rattle.std.specs.Prelude.{◌≡◌, ℕ, ◌+◌, ◌*◌, ◌<◌, ◌≤◌, vec_len, slice_index};
 ghost use Rattle.boards.specs.Meaning.{with_mark, blank, whole_rows};
 ghost use Rattle.boards.specs.Points.{member, row_at, change_rows};
 ghost use Rattle.boards.specs.Owed.{framed_sound};
 
-use crate::board::{Board, height_of};
-use crate::rows;
+use crate::board::{Board, InMemory, height_of};
+use crate::line;
+use std::ops::Range;
 
 #[derive(Drop)]
 pub struct ChangeBoard {
@@ -18,8 +19,40 @@ pub struct ChangeBoard {
 }
 
 impl ChangeBoard {
-    // A board of so many states in the memory handed in, without marks.
-    pub fn new(states: usize, memory: Vec<u16>) -> Self
+    // Where the numbers of a row stand.
+    fn span(&self, row: usize) -> Range<usize>
+        requires { row < self.now.height }
+        ensures from { result.start ≡ row * (self.now.count + 1) }
+        ensures to { result.end ≡ row * (self.now.count + 1) + (self.now.count + 1) }
+        ensures few { self.now.count ≤ 1024 }
+        ensures within { result.end ≤ vec_len self.now.points }
+    {
+        let width = self.count + 1;
+        let from = row * width;
+        from..from + width
+    }
+
+    // Makes one state of a row a member, or none, where both numbers are known.
+    fn assign(&mut self, row: usize, state: usize, to: bool)
+        ensures { change_rows self.new.points.items self.new.count self.new.height ≡ with_mark (change_rows self.old.points.items self.old.count self.old.height) row state to }
+    {
+        if row < self.height && state < self.count {
+            let span = self.span(row);
+            line::assign(&mut self.points[span], self.count as u16, state as u16, to);
+        }
+    }
+}
+
+impl InMemory for ChangeBoard {
+    type Place = u16;
+
+    ghost width = { λ n. n + 1 };
+
+    fn width(states: usize) -> usize {
+        states + 1
+    }
+
+    fn new(states: usize, memory: Vec<u16>) -> Self
         ensures { change_rows result.points.items result.count result.height ≡ blank states (whole_rows states (states + 1) (vec_len memory)) }
     {
         let mut points = memory;
@@ -30,15 +63,6 @@ impl ChangeBoard {
             points,
             count: states,
             height,
-        }
-    }
-
-    // Makes one state of a row a member, or none, where both numbers are known.
-    fn assign(&mut self, row: usize, state: usize, to: bool)
-        ensures { change_rows self.new.points.items self.new.count self.new.height ≡ with_mark (change_rows self.old.points.items self.old.count self.old.height) row state to }
-    {
-        if row < self.height && state < self.count {
-            rows::assign_at(&mut self.points, self.count, row, state, to);
         }
     }
 }
@@ -60,7 +84,11 @@ impl Board for ChangeBoard {
         if row >= self.height || state >= self.count {
             return false;
         }
-        rows::holds_at(&self.points, self.count, row, state)
+        line::holds(
+            &self.points[self.span(row)],
+            self.count as u16,
+            state as u16,
+        )
     }
 
     fn put(&mut self, row: usize, state: usize) {
@@ -73,7 +101,8 @@ impl Board for ChangeBoard {
 
     fn wipe(&mut self, row: usize) {
         if row < self.height {
-            rows::clear_at(&mut self.points, self.count, row);
+            let all = self.span(row);
+            self.points[all].fill(self.count as u16);
         }
     }
 }

@@ -6,7 +6,7 @@ ghost use Rattle.boards.specs.Bits.{bit_rows};
 ghost use Rattle.boards.specs.Points.{change_rows};
 
 use crate::bits::BitBoard;
-use crate::board::Board;
+use crate::board::{Board, InMemory};
 use crate::changes::ChangeBoard;
 
 #[derive(Clone, Copy, Drop)]

@@ -5,17 +5,14 @@ mod bits;
 mod board;
 mod changes;
 mod edits;
-mod fresh;
 mod line;
-mod rows;
 
 ghost use Rattle.boards.specs.Stored.{PointsAreChanges};
 
 pub use bits::BitBoard;
-pub use board::Board;
+pub use board::{Board, InMemory, fresh};
 pub use changes::ChangeBoard;
 pub use edits::{Change, apply, both_after, same_after};
-pub use fresh::{fresh_bits, fresh_changes};
 
 // What a board of change points stores of a row is exactly the states where membership changes.
 pub fn points_are_changes() -> u8

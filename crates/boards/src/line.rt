@@ -1,4 +1,5 @@
-// One row of change points.
+// One row of change points. It is a part of the memory that a board was handed, lent for one change: a struct of its own round that
+// loan, with the rise as its invariant, would be no plainer than the clause `rise`.
 ghost use Rattle.std.specs.Prelude.{◌≡◌, ℕ, ◌+◌, ◌-◌, ◌<◌, ◌≤◌, not, [], ◌∷◌, ◌++◌, length, take, replicate, if◌then◌else◌, nat_eq, nat_le};
 ghost use Rattle.std.specs.List.{insert, remove};
 ghost use Rattle.boards.specs.Points.{member, Rise};
@@ -74,11 +75,4 @@ pub(crate) fn assign(row: &mut [u16], n: u16, state: u16, to: bool)
     if holds(row, n, state) != to {
         flip(row, n, state);
     }
-}
-
-// Leaves no change point.
-pub(crate) fn clear(row: &mut [u16], n: u16)
-    ensures { row.new ≡ replicate (length row.old) n }
-{
-    row.fill(n);
 }

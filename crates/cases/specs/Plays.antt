@@ -13,10 +13,8 @@ use Rattle.cases.specs.declared.play.AwaitingReply.{AwaitingReply}
 use Rattle.cases.specs.declared.outcome.Play.{Play as Token}
 use Rattle.cases.specs.declared.outcome.Play.TheVariants.{Move, Reply}
 use Rattle.cases.specs.declared.outcome.Announced.{Announced}
-use Rattle.cases.specs.declared.outcome.Unannounced.{Unannounced}
-use Rattle.cases.specs.declared.outcome.Untold.{Untold}
+use Rattle.cases.specs.declared.outcome.HandedBack.{HandedBack}
 use Rattle.cases.specs.declared.outcome.Outcome.{Outcome}
-use Rattle.cases.specs.declared.outcome.Unended.{Unended}
 
 -- The play of a token, with its start and the pairs told.
 abbrev pub moving : ℕ → List (ℕ × ℕ) → AwaitingMove → Play
@@ -35,18 +33,18 @@ Begins M out m s (Ok t) out' = ((qs : List Play) → length qs ≡ out → Step 
 Begins M out m s (Err e) out' = Calls M out m (Begin s) (Refused e) m × (out' ≡ out)
 
 -- Announce and tell, wherever the play stands among those under way.
-abbrev pub AnnouncedAt : Meaning → Model → List Play → ℕ → ℕ → List (ℕ × ℕ) → AwaitingMove → Result Announced Unannounced → Type 0
+abbrev pub AnnouncedAt : Meaning → Model → List Play → ℕ → ℕ → List (ℕ × ℕ) → AwaitingMove → Result Announced (HandedBack AwaitingMove) → Type 0
 AnnouncedAt M m qs i start told t (Ok x) = Step M (world m qs) (Announce i) (Entry x.rank x.choice) (world m (slice_set qs i (replying start told x.play)))
 AnnouncedAt M m qs i start told t (Err x) = Step M (world m qs) (Announce i) (Refused x.fault) (world m qs) × (x.play ≡ t)
 
-abbrev pub Announces : Meaning → Model → AwaitingMove → Result Announced Unannounced → Type 0
+abbrev pub Announces : Meaning → Model → AwaitingMove → Result Announced (HandedBack AwaitingMove) → Type 0
 Announces M m t r = (qs : List Play) (i start : ℕ) (told : List (ℕ × ℕ)) → slice_get qs i ≡ Some (moving start told t) → AnnouncedAt M m qs i start told t r
 
-abbrev pub ToldAt : Meaning → Model → List Play → ℕ → ℕ → List (ℕ × ℕ) → AwaitingReply → ℕ → Result AwaitingMove Untold → Type 0
+abbrev pub ToldAt : Meaning → Model → List Play → ℕ → ℕ → List (ℕ × ℕ) → AwaitingReply → ℕ → Result AwaitingMove (HandedBack AwaitingReply) → Type 0
 ToldAt M m qs i start told t b (Ok x) = Step M (world m qs) (Tell i b) Done (world m (slice_set qs i (moving start ((t.choice, b) ∷ told) x)))
 ToldAt M m qs i start told t b (Err x) = Step M (world m qs) (Tell i b) (Refused x.fault) (world m qs) × (x.play.state ≡ t.state) × (x.play.steps ≡ t.steps) × (x.play.choice ≡ t.choice)
 
-abbrev pub Tells : Meaning → Model → AwaitingReply → ℕ → Result AwaitingMove Untold → Type 0
+abbrev pub Tells : Meaning → Model → AwaitingReply → ℕ → Result AwaitingMove (HandedBack AwaitingReply) → Type 0
 Tells M m t b r = (qs : List Play) (i start : ℕ) (told : List (ℕ × ℕ)) → slice_get qs i ≡ Some (replying start told t) → ToldAt M m qs i start told t b r
 
 -- The steps of a play, and whether it is met.
@@ -54,9 +52,9 @@ abbrev pub Reached : Model → Token → Outcome → Type 0
 Reached m t x = (start : ℕ) (told : List (ℕ × ℕ)) → (x.steps ≡ (playing start told t).steps) × (x.met ≡ met m (playing start told t))
 
 -- End takes the play out of those under way.
-abbrev pub EndedAt : Meaning → Model → List Play → ℕ → ℕ → List (ℕ × ℕ) → Token → ℕ → Result Outcome Unended → ℕ → Type 0
+abbrev pub EndedAt : Meaning → Model → List Play → ℕ → ℕ → List (ℕ × ℕ) → Token → ℕ → Result Outcome (HandedBack Token) → ℕ → Type 0
 EndedAt M m qs i start told t out (Ok x) out' = Step M (world m qs) (End i) (Outcome' x.steps x.met) (world m (remove qs i)) × (out' + 1 ≡ out)
 EndedAt M m qs i start told t out (Err x) out' = Step M (world m qs) (End i) (Refused x.fault) (world m qs) × (playing start told x.play ≡ playing start told t) × (out' ≡ out)
 
-abbrev pub Ends : Meaning → ℕ → Model → Token → Result Outcome Unended → ℕ → Type 0
+abbrev pub Ends : Meaning → ℕ → Model → Token → Result Outcome (HandedBack Token) → ℕ → Type 0
 Ends M out m t r out' = (qs : List Play) (i start : ℕ) (told : List (ℕ × ℕ)) → length qs ≡ out → slice_get qs i ≡ Some (playing start told t) → EndedAt M m qs i start told t out r out'

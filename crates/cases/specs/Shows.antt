@@ -3,6 +3,8 @@ use Rattle.std.specs.Prelude.{◌≡◌, ℕ, ◌<◌, Bool, List, length, Some,
 use Rattle.game.specs.Meaning.{Meaning}
 use Rattle.game.specs.Goals.{goal_of}
 use Rattle.game.specs.declared.fault.Fault.{Fault}
+use Rattle.game.specs.declared.fault.Stop.{Stop}
+use Rattle.game.specs.declared.fault.Stop.TheVariants.{Refused as refused, Memory}
 use Rattle.game.specs.declared.goal.Goal.{Goal}
 use Rattle.game.specs.declared.goal.Word.{Word}
 use Rattle.game.specs.declared.system.System as system
@@ -19,8 +21,6 @@ use Rattle.law.specs.declared.call.Answer.{Answer}
 use Rattle.law.specs.declared.call.Answer.TheVariants.{Number, Done, Told, Entry, Refused}
 use Rattle.cases.specs.declared.sheet.Sheet.{Sheet}
 use Rattle.cases.specs.declared.case.Case.{Case}
-use Rattle.cases.specs.declared.stop.Stop.{Stop}
-use Rattle.cases.specs.declared.stop.Stop.TheVariants.{Refusal, Memory}
 use Rattle.cases.specs.declared.advice.Advice.{Advice}
 
 abbrev pub plan_of : Option Sheet → Option Plan
@@ -65,18 +65,18 @@ advised (Err e) = Refused e
 -- A call that may want memory: without it nothing changes.
 abbrev pub Tries : Meaning → ℕ → Model → Call → Result (Unit {0}) Stop → Model → Type 0
 Tries M out m call (Ok x) m' = Calls M out m call Done m'
-Tries M out m call (Err (Refusal e)) m' = Calls M out m call (Refused e) m'
+Tries M out m call (Err (refused e)) m' = Calls M out m call (Refused e) m'
 Tries M out m call (Err Memory) m' = m' ≡ m
 
 -- The first test of enter that holds, or the goal of the word and room for it.
 abbrev pub Admits : Meaning → Model → Word → Result Goal Fault → Type 0
 Admits M m x (Ok φ) = (φ ≡ goal_of x) × (length m.goals < 64) × ((qs : List Play) → first (refusals M (world m qs) (Enter x)) ≡ None)
-Admits M m x (Err e) = (qs : List Play) → (first (refusals M (world m qs) (Enter x)) ≡ Some e.number) × (e ≡ fault e.number)
+Admits M m x (Err e) = (qs : List Play) → (first (refusals M (world m qs) (Enter x)) ≡ Some e.reason) × (e ≡ fault e.reason)
 
 -- The first test of a call that holds, or none, among any plays of which `out` are under way.
 abbrev pub Permits : Meaning → ℕ → Model → Call → Result (Unit {0}) Fault → Type 0
 Permits M out m call (Ok x) = (qs : List Play) → length qs ≡ out → first (refusals M (world m qs) call) ≡ None
-Permits M out m call (Err e) = (qs : List Play) → length qs ≡ out → (first (refusals M (world m qs) call) ≡ Some e.number) × (e ≡ fault e.number)
+Permits M out m call (Err e) = (qs : List Play) → length qs ≡ out → (first (refusals M (world m qs) call) ≡ Some e.reason) × (e ≡ fault e.reason)
 
 -- The first test of settle that holds, or the lowest unsettled goal.
 abbrev pub Awaits : Meaning → ℕ → Model → Result Goal Fault → Type 0

@@ -3,37 +3,23 @@ ghost use Rattle.std.specs.Prelude.{◌≡◌, List, [], None, MatchResult};
 ghost use Rattle.game.specs.Goals.{goal_in};
 ghost use Rattle.law.specs.Worlds.{opened};
 ghost use Rattle.law.specs.Refusals.{no_board};
-ghost use Rattle.law.specs.Steps.{fault};
+ghost use Rattle.game.specs.declared.fault.Stop.TheVariants.{Memory};
 ghost use Rattle.law.specs.declared.call.Call.TheVariants.{Enter, Settle, Query};
 ghost use Rattle.cases.specs.Shows.{model, Calls, numbered, answered, Admits, Truth};
 
 use crate::case::Case;
 use boards::Board;
-use game::fault::{Fault, Layer};
+use game::fault::{Fault, Reason, Stop};
 use game::goal::{Goal, Word};
 use game::system::System;
-use goals::word::{goal_of, is_earlier, is_goal, is_known};
+use goals::word::{is_earlier, is_known};
 use std::alloc::{AllocError, Global};
 
-// A refusal of a case has place 0.
-pub(crate) fn refusal(number: u8) -> Fault
-    ensures { result ≡ fault number }
+// Goal f of a list, the goal true past its end.
+pub(crate) fn goal_at(goals: &[Goal], f: usize) -> Goal
+    ensures { result ≡ goal_in goals.now f }
 {
-    Fault {
-        number,
-        layer: Layer::Case,
-        place: 0,
-    }
-}
-
-pub(crate) fn goal_at(goals: &Vec<Goal>, f: usize) -> Goal
-    ensures { result ≡ goal_in goals.now.items f }
-{
-    if f < goals.len() {
-        goals[f]
-    } else {
-        Goal::True
-    }
+    goals.get(f).copied().unwrap_or(Goal::True)
 }
 
 // A system and a board on which no case could be opened for want of memory.
@@ -41,6 +27,14 @@ pub(crate) fn goal_at(goals: &Vec<Goal>, f: usize) -> Goal
 pub struct Unopened<S, B> {
     pub system: S,
     pub board: B,
+}
+
+impl<S: Drop, B: Drop> From<Unopened<S, B>> for Stop {
+    ghost from_gives = { λ _ stop. stop ≡ Memory };
+
+    fn from(_: Unopened<S, B>) -> Stop {
+        Stop::Memory
+    }
 }
 
 impl<S: System, B: Board> Case<S, B> {
@@ -79,16 +73,16 @@ impl<S: System, B: Board> Case<S, B> {
         ensures { Calls (S.System.means self.now.system) self.now.out (model B.Board.shows self.now) (Query goal state) (answered result) (model B.Board.shows self.now) }
     {
         if self.is_unfit() {
-            return Err(refusal(20));
+            return Err(Fault::from(Reason::NoBoard));
         }
         if goal >= self.goals.len() {
-            return Err(refusal(30));
+            return Err(Fault::from(Reason::NoSuchGoal));
         }
         if goal >= self.settled {
-            return Err(refusal(31));
+            return Err(Fault::from(Reason::NotSettled));
         }
         if state >= self.system.states() {
-            return Err(refusal(33));
+            return Err(Fault::from(Reason::NoSuchState));
         }
         Ok(self.board.has(goal, state))
     }
@@ -107,20 +101,17 @@ impl<S: System, B: Board> Case<S, B> {
         ensures { Admits (S.System.means self.now.system) (model B.Board.shows self.now) word result }
     {
         if self.is_unfit() {
-            return Err(refusal(20));
+            return Err(Fault::from(Reason::NoBoard));
         }
         if self.goals.len() >= self.board.rows() {
-            return Err(refusal(21));
+            return Err(Fault::from(Reason::NoRow));
         }
-        if !is_goal(word) {
-            return Err(refusal(22));
-        }
-        let goal = goal_of(word);
+        let goal = Goal::try_from(word)?;
         if !is_earlier(self.goals.len(), goal) {
-            return Err(refusal(23));
+            return Err(Fault::from(Reason::NotEarlier));
         }
         if !is_known(&self.system, goal) {
-            return Err(refusal(24));
+            return Err(Fault::from(Reason::NotKnown));
         }
         Ok(goal)
     }

@@ -12,4 +12,3 @@ pub mod reply;
 mod rows;
 pub mod settle;
 pub mod sheet;
-pub mod stop;

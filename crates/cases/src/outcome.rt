@@ -1,6 +1,6 @@
 // What the calls of a play hand out, and what a refusal hands back.
 use crate::play::{AwaitingMove, AwaitingReply};
-use game::fault::Fault;
+use game::fault::{Fault, Reason};
 
 // A play of either sort.
 pub enum Play {
@@ -14,14 +14,10 @@ pub struct Announced {
     pub play: AwaitingReply,
 }
 
-pub struct Unannounced {
+// A play that a refusal hands back.
+pub struct HandedBack<P> {
     pub fault: Fault,
-    pub play: AwaitingMove,
-}
-
-pub struct Untold {
-    pub fault: Fault,
-    pub play: AwaitingReply,
+    pub play: P,
 }
 
 // The accepted tells, and whether the goal is met.
@@ -29,9 +25,4 @@ pub struct Untold {
 pub struct Outcome {
     pub steps: usize,
     pub met: bool,
-}
-
-pub struct Unended {
-    pub fault: Fault,
-    pub play: Play,
 }

@@ -7,13 +7,12 @@ ghost use Rattle.cases.specs.Shows.{model, Calls, advised, Tries};
 ghost use Rattle.cases.specs.Planning.{DrawnFor, Plannable};
 
 use crate::advice::Advice;
-use crate::calls::{goal_at, refusal};
+use crate::calls::goal_at;
 use crate::case::Case;
 use crate::sheet::Sheet;
-use crate::stop::Stop;
 use arenas::entry::Entry;
 use boards::Board;
-use game::fault::Fault;
+use game::fault::{Fault, Reason, Stop};
 use game::goal::Goal;
 use game::system::System;
 use goals::evaluate::row_flags;
@@ -59,15 +58,11 @@ fn draw_goal<S: System, B: Board>(
 pub(crate) fn entry_at(entries: &[Entry], state: usize) -> Entry
     ensures { result ≡ slice_index_or entries.now state blank }
 {
-    if state < entries.len() {
-        entries[state]
-    } else {
-        Entry {
-            granted: false,
-            rank: 0,
-            choice: 0,
-        }
-    }
+    entries.get(state).copied().unwrap_or(Entry {
+        granted: false,
+        rank: 0,
+        choice: 0,
+    })
 }
 
 impl<S: System, B: Board> Case<S, B> {
@@ -76,20 +71,20 @@ impl<S: System, B: Board> Case<S, B> {
         ensures { Plannable (S.System.means self.now.system) self.now.out (model B.Board.shows self.now) goal result }
     {
         if self.is_unfit() {
-            return Err(refusal(20));
+            return Err(Fault::from(Reason::NoBoard));
         }
         if goal >= self.goals.len() {
-            return Err(refusal(30));
+            return Err(Fault::from(Reason::NoSuchGoal));
         }
         if goal >= self.settled {
-            return Err(refusal(31));
+            return Err(Fault::from(Reason::NotSettled));
         }
         let wanted = goal_at(&self.goals, goal);
         if !is_strategic(wanted) {
-            return Err(refusal(34));
+            return Err(Fault::from(Reason::NotStrategic));
         }
         if self.out != 0 {
-            return Err(refusal(39));
+            return Err(Fault::from(Reason::PlaysUnderWay));
         }
         Ok(wanted)
     }
@@ -111,17 +106,17 @@ impl<S: System, B: Board> Case<S, B> {
         ensures { Calls (S.System.means self.now.system) self.now.out (model B.Board.shows self.now) (Move state) (advised result) (model B.Board.shows self.now) }
     {
         if self.is_unfit() {
-            return Err(refusal(20));
+            return Err(Fault::from(Reason::NoBoard));
         }
         let Some(sheet) = &self.sheet else {
-            return Err(refusal(35));
+            return Err(Fault::from(Reason::NoSheet));
         };
         if state >= self.system.states() {
-            return Err(refusal(33));
+            return Err(Fault::from(Reason::NoSuchState));
         }
         let entry = entry_at(sheet.entries.as_slice(), state);
         if !entry.granted {
-            return Err(refusal(36));
+            return Err(Fault::from(Reason::Denied));
         }
         Ok(Advice {
             rank: entry.rank as usize,

@@ -7,14 +7,14 @@ ghost use Rattle.law.specs.declared.call.Call.TheVariants.{Strike};
 ghost use Rattle.cases.specs.Shows.{model, Calls, finished};
 ghost use Rattle.cases.specs.Plays.{Begins, Announces, Tells, Reached, Ends};
 
-use crate::calls::{goal_at, refusal};
+use crate::calls::goal_at;
 use crate::case::Case;
-use crate::outcome::{Announced, Outcome, Play, Unannounced, Unended, Untold};
+use crate::outcome::{Announced, HandedBack, Outcome, Play};
 use crate::plan::entry_at;
 use crate::play::{AwaitingMove, AwaitingReply};
 use crate::reply::is_reply;
 use boards::Board;
-use game::fault::Fault;
+use game::fault::{Fault, Reason};
 use game::goal::Goal;
 use game::system::System;
 use goals::word::group_of;
@@ -39,43 +39,43 @@ impl<S: System, B: Board> Case<S, B> {
         ensures same { self.new.system ≡ self.old.system }
     {
         if self.is_unfit() {
-            return Err(refusal(20));
+            return Err(Fault::from(Reason::NoBoard));
         }
         let Some(sheet) = &self.sheet else {
-            return Err(refusal(35));
+            return Err(Fault::from(Reason::NoSheet));
         };
         if state >= self.system.states() {
-            return Err(refusal(33));
+            return Err(Fault::from(Reason::NoSuchState));
         }
         if !entry_at(sheet.entries.as_slice(), state).granted {
-            return Err(refusal(36));
+            return Err(Fault::from(Reason::Denied));
         }
         if self.out >= 8 {
-            return Err(refusal(40));
+            return Err(Fault::from(Reason::TooManyPlays));
         }
         self.out += 1;
         Ok(AwaitingMove { state, steps: 0 })
     }
 
     // The rank of the play's state and the group's move there; the play then awaits a reply.
-    pub fn announce(&self, play: AwaitingMove) -> Result<Announced, Unannounced>
+    pub fn announce(&self, play: AwaitingMove) -> Result<Announced, HandedBack<AwaitingMove>>
         ensures { Announces (S.System.means self.now.system) (model B.Board.shows self.now) play result }
     {
         if self.is_unfit() {
-            return Err(Unannounced {
-                fault: refusal(20),
+            return Err(HandedBack {
+                fault: Fault::from(Reason::NoBoard),
                 play,
             });
         }
         let Some(sheet) = &self.sheet else {
-            return Err(Unannounced {
-                fault: refusal(35),
+            return Err(HandedBack {
+                fault: Fault::from(Reason::NoSheet),
                 play,
             });
         };
         if play.state >= self.system.states() {
-            return Err(Unannounced {
-                fault: refusal(33),
+            return Err(HandedBack {
+                fault: Fault::from(Reason::NoSuchState),
                 play,
             });
         }
@@ -85,21 +85,21 @@ impl<S: System, B: Board> Case<S, B> {
             play.state,
             play.steps,
         ) {
-            return Err(Unannounced {
-                fault: refusal(43),
+            return Err(HandedBack {
+                fault: Fault::from(Reason::AlreadyMet),
                 play,
             });
         }
         let entry = entry_at(sheet.entries.as_slice(), play.state);
         if !entry.granted {
-            return Err(Unannounced {
-                fault: refusal(36),
+            return Err(HandedBack {
+                fault: Fault::from(Reason::Denied),
                 play,
             });
         }
         if play.steps >= 65535 {
-            return Err(Unannounced {
-                fault: refusal(42),
+            return Err(HandedBack {
+                fault: Fault::from(Reason::TooManySteps),
                 play,
             });
         }
@@ -127,30 +127,34 @@ impl<S: System, B: Board> Case<S, B> {
     }
 
     // Takes a reply to the announced move; the play then awaits a move at the next state.
-    pub fn tell(&self, play: AwaitingReply, reply: usize) -> Result<AwaitingMove, Untold>
+    pub fn tell(
+        &self,
+        play: AwaitingReply,
+        reply: usize,
+    ) -> Result<AwaitingMove, HandedBack<AwaitingReply>>
         ensures { Tells (S.System.means self.now.system) (model B.Board.shows self.now) play reply result }
     {
         if self.is_unfit() {
-            return Err(Untold {
-                fault: refusal(20),
+            return Err(HandedBack {
+                fault: Fault::from(Reason::NoBoard),
                 play,
             });
         }
         if self.sheet.is_none() {
-            return Err(Untold {
-                fault: refusal(35),
+            return Err(HandedBack {
+                fault: Fault::from(Reason::NoSheet),
                 play,
             });
         }
         if play.state >= self.system.states() {
-            return Err(Untold {
-                fault: refusal(33),
+            return Err(HandedBack {
+                fault: Fault::from(Reason::NoSuchState),
                 play,
             });
         }
         if !is_reply(&self.system, self.group(), play.state, reply) {
-            return Err(Untold {
-                fault: refusal(38),
+            return Err(HandedBack {
+                fault: Fault::from(Reason::NotAllowed),
                 play,
             });
         }
@@ -166,20 +170,20 @@ impl<S: System, B: Board> Case<S, B> {
     }
 
     // Takes a play back, and gives the accepted tells and whether the goal is met.
-    pub fn end(&mut self, play: Play) -> Result<Outcome, Unended>
+    pub fn end(&mut self, play: Play) -> Result<Outcome, HandedBack<Play>>
         ensures steps { Ends (S.System.means self.old.system) self.old.out (model B.Board.shows self.old) play result self.new.out }
         ensures shows { model B.Board.shows self.new ≡ model B.Board.shows self.old }
         ensures same { self.new.system ≡ self.old.system }
     {
         if self.is_unfit() {
-            return Err(Unended {
-                fault: refusal(20),
+            return Err(HandedBack {
+                fault: Fault::from(Reason::NoBoard),
                 play,
             });
         }
         if self.out == 0 {
-            return Err(Unended {
-                fault: refusal(41),
+            return Err(HandedBack {
+                fault: Fault::from(Reason::NoPlay),
                 play,
             });
         }
@@ -219,13 +223,13 @@ impl<S: System, B: Board> Case<S, B> {
         ensures out { self.new.out ≡ self.old.out }
     {
         if self.is_unfit() {
-            return Err(refusal(20));
+            return Err(Fault::from(Reason::NoBoard));
         }
         if k > self.goals.len() {
-            return Err(refusal(30));
+            return Err(Fault::from(Reason::NoSuchGoal));
         }
         if self.out != 0 {
-            return Err(refusal(39));
+            return Err(Fault::from(Reason::PlaysUnderWay));
         }
         self.goals.truncate(k);
         self.settled = self.settled.min(k);

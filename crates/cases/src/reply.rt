@@ -7,12 +7,12 @@ ghost use Rattle.cases.specs.Shows.{model, Calls, advised};
 ghost use Rattle.cases.specs.Planning.{RepliesAs};
 
 use crate::advice::Advice;
-use crate::calls::{goal_at, refusal};
+use crate::calls::goal_at;
 use crate::case::Case;
 use crate::plan::entry_at;
 use arenas::entry::Entry;
 use boards::Board;
-use game::fault::Fault;
+use game::fault::{Fault, Reason};
 use game::goal::Goal;
 use game::system::System;
 use goals::word::group_of;
@@ -99,22 +99,22 @@ impl<S: System, B: Board> Case<S, B> {
         ensures { Calls (S.System.means self.now.system) self.now.out (model B.Board.shows self.now) (Reply state choice) (advised result) (model B.Board.shows self.now) }
     {
         if self.is_unfit() {
-            return Err(refusal(20));
+            return Err(Fault::from(Reason::NoBoard));
         }
         let Some(sheet) = &self.sheet else {
-            return Err(refusal(35));
+            return Err(Fault::from(Reason::NoSheet));
         };
         if state >= self.system.states() {
-            return Err(refusal(33));
+            return Err(Fault::from(Reason::NoSuchState));
         }
         let entries = sheet.entries.as_slice();
         let entry = entry_at(entries, state);
         if entry.granted {
-            return Err(refusal(37));
+            return Err(Fault::from(Reason::Granted));
         }
         let goal = goal_at(&self.goals, sheet.goal);
         if !is_choice(&self.system, group_of(goal), state, choice) {
-            return Err(refusal(38));
+            return Err(Fault::from(Reason::NotAllowed));
         }
         Ok(Advice {
             rank: entry.rank as usize,

@@ -6,12 +6,6 @@ ghost use Rattle.law.specs.Steps.{with_row};
 
 use boards::Board;
 
-fn flag(flags: &[bool], state: usize) -> bool
-    ensures { result ≡ set_in flags.now state }
-{
-    state < flags.len() && flags[state]
-}
-
 fn mark<B: Board>(board: &mut B, row: usize, state: usize, on: bool)
     ensures { B.Board.shows board.new ≡ with_mark (B.Board.shows board.old) row state on }
 {
@@ -27,7 +21,7 @@ pub(crate) fn write_row<B: Board>(board: &mut B, row: usize, flags: &[bool])
     ensures { B.Board.shows board.new ≡ with_row (B.Board.shows board.old) row (set_in flags.now) }
 {
     for s in 0..board.states() {
-        let on = flag(flags, s);
+        let on = flags.get(s).copied().unwrap_or(false);
         mark(board, row, s, on);
     }
 }

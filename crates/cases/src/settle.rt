@@ -3,12 +3,11 @@ ghost use Rattle.std.specs.Prelude.{◌≡◌, ◌<◌};
 ghost use Rattle.law.specs.declared.call.Call.TheVariants.{Settle};
 ghost use Rattle.cases.specs.Shows.{model, Awaits, Tries};
 
-use crate::calls::{goal_at, refusal};
+use crate::calls::goal_at;
 use crate::case::Case;
 use crate::rows::write_row;
-use crate::stop::Stop;
 use boards::Board;
-use game::fault::Fault;
+use game::fault::{Fault, Reason, Stop};
 use game::goal::Goal;
 use game::system::System;
 use goals::evaluate::evaluate;
@@ -20,10 +19,10 @@ impl<S: System, B: Board> Case<S, B> {
         ensures { Awaits (S.System.means self.now.system) self.now.out (model B.Board.shows self.now) result }
     {
         if self.is_unfit() {
-            return Err(refusal(20));
+            return Err(Fault::from(Reason::NoBoard));
         }
         if self.settled >= self.goals.len() {
-            return Err(refusal(32));
+            return Err(Fault::from(Reason::AllSettled));
         }
         Ok(goal_at(&self.goals, self.settled))
     }

@@ -2,8 +2,7 @@
 use boards::Board;
 use cases::advice::Advice;
 use cases::case::Case;
-use cases::stop::Stop;
-use game::fault::Fault;
+use game::fault::{Fault, Stop};
 use game::goal::Word;
 use game::system::System;
 use std::alloc::{AllocError, Global};
@@ -58,7 +57,7 @@ pub(crate) fn hear<S: System, B: Board>(
 ) -> Result<Said, AllocError> {
     match call(heap, case, ask) {
         Ok(said) => Ok(said),
-        Err(Stop::Refusal(fault)) => Ok(Said::Refused(fault)),
+        Err(Stop::Refused(fault)) => Ok(Said::Refused(fault)),
         Err(Stop::Memory) => Err(AllocError),
     }
 }

@@ -49,7 +49,7 @@ impl Outcomes {
 
     pub(crate) fn add(&mut self, refusal: Option<Fault>) -> Result<(), AllocError> {
         match refusal {
-            Some(fault) => self.refusals.add(fault.number)?,
+            Some(fault) => self.refusals.add(u8::from(fault.reason))?,
             None => self.accepted += 1,
         }
         Ok(())

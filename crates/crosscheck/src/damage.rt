@@ -1,8 +1,7 @@
 // Lists that make no game, and the first rule that they break.
 use crate::listing::Listing;
 use crate::random::Random;
-use crate::refusal::Reason;
-use game::fault::Fault;
+use game::fault::{Fault, Reason};
 use std::alloc::AllocError;
 use systems::line::MoveLine;
 
@@ -41,13 +40,22 @@ impl Listing {
     // The first rule that the lists break, at its entry.
     pub(crate) fn broken(&self) -> Result<(), Fault> {
         if !self.has_shape() {
-            return Err(Reason::Shape.at(0));
+            return Err(Fault {
+                reason: Reason::Shape,
+                place: 0,
+            });
         }
         if let Some(place) = self.bad_entry() {
-            return Err(Reason::Entry.at(place));
+            return Err(Fault {
+                reason: Reason::Entry,
+                place: place,
+            });
         }
         if self.starts.iter().all(|start| *start == 0) {
-            return Err(Reason::NoStart.at(0));
+            return Err(Fault {
+                reason: Reason::NoStart,
+                place: 0,
+            });
         }
         Ok(())
     }

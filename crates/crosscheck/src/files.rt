@@ -7,9 +7,9 @@ use crate::plain::choices_of;
 use crate::questions::first_otherwise;
 use crate::random::Random;
 use crate::second_reader::{Found, read_file};
+use game::fault::Stop;
 use game::goal::Word;
 use game::system::System;
-use procedure::error::ReadError;
 use procedure::procedure::Procedure;
 use procedure::reading::read_whole;
 use std::alloc::AllocError;
@@ -145,11 +145,11 @@ fn same_found(random: &mut Random, read: &Procedure, found: &Found) -> Result<bo
 fn agrees(
     random: &mut Random,
     bytes: &[u8],
-    second: &Result<Found, ReadError>,
+    second: &Result<Found, Stop>,
 ) -> Result<bool, AllocError> {
     match (read_whole(random.heap, bytes), second) {
         (Ok(read), Ok(found)) => same_found(random, &read, found),
-        (Err(ReadError::Refused(fault)), Err(ReadError::Refused(wanted))) => Ok(fault == *wanted),
+        (Err(Stop::Refused(fault)), Err(Stop::Refused(wanted))) => Ok(fault == *wanted),
         _ => Ok(false),
     }
 }
@@ -166,8 +166,8 @@ pub(crate) fn compare_files(rt: &HostRuntime, random: &mut Random) -> io::Result
         }
         match second {
             Ok(_) => outcomes.add(None)?,
-            Err(ReadError::Refused(fault)) => outcomes.add(Some(fault))?,
-            Err(ReadError::Memory) => return Err(AllocError.into()),
+            Err(Stop::Refused(fault)) => outcomes.add(Some(fault))?,
+            Err(Stop::Memory) => return Err(AllocError.into()),
         }
     }
     println!(rt; "procedure files: 10000, {differences}; read {outcomes}")

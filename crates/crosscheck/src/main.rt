@@ -17,7 +17,6 @@ mod plain;
 mod questions;
 mod random;
 mod readings;
-mod refusal;
 mod second;
 mod second_reader;
 mod session;

@@ -1,6 +1,6 @@
 // Boards in memory that held something else before.
 use crate::random::Random;
-use boards::{BitBoard, Board, ChangeBoard};
+use boards::{BitBoard, Board, ChangeBoard, InMemory};
 use std::alloc::AllocError;
 
 pub trait Used: Board {

@@ -2,11 +2,9 @@
 use crate::ask::{Ask, Said};
 use crate::goal_word::{goal_of, is_known, operands};
 use crate::plain::Plain;
-use crate::refusal::Reason;
 use crate::settled::Settled;
 use crate::sheet::Sheet;
-use cases::stop::Stop;
-use game::fault::Fault;
+use game::fault::{Fault, Reason, Stop};
 use game::goal::{Goal, Word};
 use std::alloc::{AllocError, Global};
 
@@ -101,7 +99,7 @@ impl Second {
         self.check_board()?;
         match self.goals.get(self.settled.count()) {
             Some(goal) => self.settled.settle(*goal),
-            None => Err(Stop::Refusal(Reason::AllSettled.into())),
+            None => Err(Stop::Refused(Reason::AllSettled.into())),
         }
     }
 
@@ -127,7 +125,7 @@ impl Second {
         let sheet = self.sheet()?;
         self.check_state(state)?;
         if !sheet.grants(state) {
-            return Err(Stop::Refusal(Reason::Denied.into()));
+            return Err(Stop::Refused(Reason::Denied.into()));
         }
         Ok(
             sheet
@@ -143,10 +141,10 @@ impl Second {
         let sheet = self.sheet()?;
         self.check_state(state)?;
         if sheet.grants(state) {
-            return Err(Stop::Refusal(Reason::Granted.into()));
+            return Err(Stop::Refused(Reason::Granted.into()));
         }
         let Some(turn) = sheet.turn(state, choice) else {
-            return Err(Stop::Refusal(Reason::NotAllowed.into()));
+            return Err(Stop::Refused(Reason::NotAllowed.into()));
         };
         Ok(
             sheet
@@ -182,7 +180,7 @@ impl Second {
     pub(crate) fn say(&mut self, ask: Ask) -> Result<Option<Said>, AllocError> {
         match self.call(ask) {
             Ok(said) => Ok(said),
-            Err(Stop::Refusal(fault)) => Ok(Some(Said::Refused(fault))),
+            Err(Stop::Refused(fault)) => Ok(Some(Said::Refused(fault))),
             Err(Stop::Memory) => Err(AllocError),
         }
     }

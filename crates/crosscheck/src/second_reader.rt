@@ -2,9 +2,8 @@
 use crate::crew::{Crew, Guarded, Member, Test, states_of};
 use crate::hiring::Scope;
 use crate::kind::Kind;
-use crate::refusal::Reason;
+use game::fault::{Fault, Reason, Stop};
 use game::goal::Word;
-use procedure::error::ReadError;
 use std::alloc::Global;
 
 #[derive(Drop)]
@@ -21,18 +20,21 @@ struct Line {
 }
 
 impl Line {
-    fn refuse<T>(&self, reason: Reason) -> Result<T, ReadError> {
-        Err(ReadError::Refused(reason.at(self.place)))
+    fn refuse<T>(&self, reason: Reason) -> Result<T, Stop> {
+        Err(Stop::Refused(Fault {
+            reason,
+            place: self.place,
+        }))
     }
 
-    fn zero(&self, field: u8) -> Result<(), ReadError> {
+    fn zero(&self, field: u8) -> Result<(), Stop> {
         if field != 0 {
             return self.refuse(Reason::Unused);
         }
         Ok(())
     }
 
-    fn range(&self, fine: bool) -> Result<(), ReadError> {
+    fn range(&self, fine: bool) -> Result<(), Stop> {
         if !fine {
             return self.refuse(Reason::Range);
         }
@@ -100,18 +102,20 @@ impl<'a> Cursor<'a> {
     }
 
     // The next line, which has to be of this kind.
-    fn take(&mut self, kind: Kind) -> Result<Line, ReadError> {
+    fn take(&mut self, kind: Kind) -> Result<Line, Stop> {
         let place = self.place();
-        self.next_of(kind)
-            .ok_or(ReadError::Refused(Reason::Kind.at(place)))
+        self.next_of(kind).ok_or(Stop::Refused(Fault {
+            reason: Reason::Kind,
+            place: place,
+        }))
     }
 
     // All lines of a kind that come next, each read with what belongs to it.
-    fn many<T: Drop, F: FnMut(&mut Cursor<'a>, Line) -> Result<T, ReadError>>(
+    fn many<T: Drop, F: FnMut(&mut Cursor<'a>, Line) -> Result<T, Stop>>(
         &mut self,
         kind: Kind,
         mut read: F,
-    ) -> Result<Vec<T>, ReadError>
+    ) -> Result<Vec<T>, Stop>
         requires { F.IsAlwaysCallable read }
     {
         let mut list = Vec::new(self.heap);
@@ -131,7 +135,7 @@ impl<'a> Cursor<'a> {
         line: Line,
         limit: usize,
         test: F,
-    ) -> Result<Guarded, ReadError>
+    ) -> Result<Guarded, Stop>
         requires { F.IsAlwaysCallable test }
     {
         let Word { a, b, c, d, .. } = line.word;
@@ -153,7 +157,7 @@ impl<'a> Cursor<'a> {
         Ok(Guarded { result: d, tests })
     }
 
-    fn masks(&mut self, locals: usize) -> Result<Vec<u8>, ReadError> {
+    fn masks(&mut self, locals: usize) -> Result<Vec<u8>, Stop> {
         let mut masks = Vec::new(self.heap);
         for local in 0..locals {
             let line = self.take(Kind::Protocol)?;
@@ -167,7 +171,7 @@ impl<'a> Cursor<'a> {
     }
 
     // One of so many agents, after those that are read.
-    fn member(&mut self, members: &[Member], agents: usize) -> Result<Member, ReadError> {
+    fn member(&mut self, members: &[Member], agents: usize) -> Result<Member, Stop> {
         let line = self.take(Kind::Agent)?;
         line.zero(line.word.a)?;
         line.zero(line.word.d)?;
@@ -186,7 +190,7 @@ impl<'a> Cursor<'a> {
         Ok(Member { masks, rules })
     }
 
-    fn members(&mut self, agents: usize) -> Result<Vec<Member>, ReadError> {
+    fn members(&mut self, agents: usize) -> Result<Vec<Member>, Stop> {
         let mut members = Vec::new(self.heap);
         for _ in 0..agents {
             let member = self.member(&members, agents)?;
@@ -195,7 +199,7 @@ impl<'a> Cursor<'a> {
         Ok(members)
     }
 
-    fn starts(&mut self, states: usize) -> Result<Vec<usize>, ReadError> {
+    fn starts(&mut self, states: usize) -> Result<Vec<usize>, Stop> {
         let starts = self.many(Kind::Start, |_, line| {
             line.zero(line.word.a)?;
             line.zero(line.word.b)?;
@@ -203,12 +207,15 @@ impl<'a> Cursor<'a> {
             Ok(line.number())
         })?;
         if starts.is_empty() {
-            return Err(ReadError::Refused(Reason::Kind.at(self.place())));
+            return Err(Stop::Refused(Fault {
+                reason: Reason::Kind,
+                place: self.place(),
+            }));
         }
         Ok(starts)
     }
 
-    fn crew(&mut self) -> Result<Crew, ReadError> {
+    fn crew(&mut self) -> Result<Crew, Stop> {
         let line = self.take(Kind::System)?;
         let Word { a, b, c, d, .. } = line.word;
         line.zero(a)?;
@@ -228,7 +235,7 @@ impl<'a> Cursor<'a> {
     }
 
     // The end word, and nothing after it.
-    fn end(&mut self) -> Result<(), ReadError> {
+    fn end(&mut self) -> Result<(), Stop> {
         let line = self.take(Kind::End)?;
         line.zero(line.word.a)?;
         line.zero(line.word.b)?;
@@ -242,11 +249,14 @@ impl<'a> Cursor<'a> {
     }
 }
 
-pub(crate) fn read_file(heap: Global, bytes: &[u8]) -> Result<Found, ReadError> {
+pub(crate) fn read_file(heap: Global, bytes: &[u8]) -> Result<Found, Stop> {
     let (chunks, rest) = bytes.as_chunks::<4>();
     let count = chunks.len();
     if !rest.is_empty() || !(1..=4096).contains(&count) {
-        return Err(ReadError::Refused(Reason::Length.at(count)));
+        return Err(Stop::Refused(Fault {
+            reason: Reason::Length,
+            place: count,
+        }));
     }
     let lines: Vec<Line> = chunks
         .iter()

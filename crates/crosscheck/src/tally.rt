@@ -74,7 +74,7 @@ impl Tally {
     fn add_step(&mut self, step: Step) -> Result<(), AllocError> {
         self.calls += 1;
         match (step.ask, step.said) {
-            (_, Some(Said::Refused(fault))) => self.refusals.add(fault.number)?,
+            (_, Some(Said::Refused(fault))) => self.refusals.add(u8::from(fault.reason))?,
             (Ask::Enter(word), Some(Said::Number(_))) => self.goals.add(usize::from(word.a))?,
             (Ask::Query(..), Some(Said::Told(true))) => self.granted += 1,
             (Ask::Query(..), Some(Said::Told(false))) => self.denied += 1,

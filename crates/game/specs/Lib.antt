@@ -3,6 +3,7 @@ pub mod Objectives
 pub mod Plays
 pub mod Sheets
 pub mod Goals
+pub mod Faults
 pub mod Formulas
 pub mod Theorems
 pub mod Van

@@ -4,5 +4,5 @@
 mod common;
 pub mod evaluate;
 mod plain;
-mod search;
+mod rows;
 pub mod word;

@@ -68,28 +68,21 @@ pub fn is_goal(word: Word) -> bool
     is_same(word, word_of(goal_of(word)))
 }
 
-fn is_below(c: u8, n: usize) -> bool
-    ensures { result ≡ nat_lt c n }
-{
-    (c as usize) < n
-}
-
 // Whether the operands are among the first n goals.
 pub fn is_earlier(n: usize, goal: Goal) -> bool
     ensures { result ≡ earlier n goal }
 {
     match goal {
-        Goal::True => true,
-        Goal::Atom(_) => true,
-        Goal::Not(c) => is_below(c, n),
-        Goal::Or(c, d) => is_below(c, n) && is_below(d, n),
-        Goal::And(c, d) => is_below(c, n) && is_below(d, n),
-        Goal::Each(_, c) => is_below(c, n),
-        Goal::Common(_, c) => is_below(c, n),
-        Goal::Joint(_, c) => is_below(c, n),
-        Goal::Next(_, c) => is_below(c, n),
-        Goal::Always(_, c) => is_below(c, n),
-        Goal::Until(_, c, d) => is_below(c, n) && is_below(d, n),
+        Goal::True | Goal::Atom(_) => true,
+        Goal::Or(c, d) | Goal::And(c, d) | Goal::Until(_, c, d) => {
+            (c as usize) < n && (d as usize) < n
+        }
+        Goal::Not(c)
+        | Goal::Each(_, c)
+        | Goal::Common(_, c)
+        | Goal::Joint(_, c)
+        | Goal::Next(_, c)
+        | Goal::Always(_, c) => (c as usize) < n,
     }
 }
 
@@ -100,28 +93,17 @@ fn is_group<S: System>(system: &S, group: u8) -> bool
     (group as usize) < 1 << system.agents()
 }
 
-fn is_some_group<S: System>(system: &S, group: u8) -> bool
-    ensures { result ≡ some_group (S.System.means system.now) group }
-{
-    is_group(system, group) && group != 0
-}
-
 // Whether the system has the atom or the agents of a goal.
 pub fn is_known<S: System>(system: &S, goal: Goal) -> bool
     ensures { result ≡ goal_known (S.System.means system.now) goal }
 {
     match goal {
-        Goal::True => true,
+        Goal::True | Goal::Not(_) | Goal::Or(_, _) | Goal::And(_, _) => true,
         Goal::Atom(p) => (p as usize) < system.atoms(),
-        Goal::Not(_) => true,
-        Goal::Or(_, _) => true,
-        Goal::And(_, _) => true,
-        Goal::Each(g, _) => is_some_group(system, g),
-        Goal::Common(g, _) => is_some_group(system, g),
-        Goal::Joint(g, _) => is_some_group(system, g),
-        Goal::Next(g, _) => is_group(system, g),
-        Goal::Always(g, _) => is_group(system, g),
-        Goal::Until(g, _, _) => is_group(system, g),
+        Goal::Each(g, _) | Goal::Common(g, _) | Goal::Joint(g, _) => {
+            is_group(system, g) && g != 0
+        }
+        Goal::Next(g, _) | Goal::Always(g, _) | Goal::Until(g, _, _) => is_group(system, g),
     }
 }
 
@@ -129,19 +111,10 @@ pub fn is_known<S: System>(system: &S, goal: Goal) -> bool
 pub fn is_strategic(goal: Goal) -> bool
     ensures { result ≡ is_strategic goal }
 {
-    match goal {
-        Goal::True => false,
-        Goal::Atom(_) => false,
-        Goal::Not(_) => false,
-        Goal::Or(_, _) => false,
-        Goal::And(_, _) => false,
-        Goal::Each(_, _) => false,
-        Goal::Common(_, _) => false,
-        Goal::Joint(_, _) => false,
-        Goal::Next(_, _) => true,
-        Goal::Always(_, _) => true,
-        Goal::Until(_, _, _) => true,
-    }
+    matches!(
+        goal,
+        Goal::Next(_, _) | Goal::Always(_, _) | Goal::Until(_, _, _)
+    )
 }
 
 // The group of a goal, or the empty one.
@@ -149,16 +122,12 @@ pub fn group_of(goal: Goal) -> u8
     ensures { result ≡ group_of goal }
 {
     match goal {
-        Goal::True => 0,
-        Goal::Atom(_) => 0,
-        Goal::Not(_) => 0,
-        Goal::Or(_, _) => 0,
-        Goal::And(_, _) => 0,
-        Goal::Each(g, _) => g,
-        Goal::Common(g, _) => g,
-        Goal::Joint(g, _) => g,
-        Goal::Next(g, _) => g,
-        Goal::Always(g, _) => g,
-        Goal::Until(g, _, _) => g,
+        Goal::True | Goal::Atom(_) | Goal::Not(_) | Goal::Or(_, _) | Goal::And(_, _) => 0,
+        Goal::Each(g, _)
+        | Goal::Common(g, _)
+        | Goal::Joint(g, _)
+        | Goal::Next(g, _)
+        | Goal::Always(g, _)
+        | Goal::Until(g, _, _) => g,
     }
 }

@@ -12,6 +12,7 @@ use Rattle.game.proofs.Bounded.{clash}
 use Rattle.game.specs.declared.goal.Goal.TheVariants.{True as TRUE}
 use Rattle.game.specs.Goals.{goal_of, group_of}
 use Rattle.law.specs.Worlds.{Plan, Model, Turn, to_move, to_reply, Play, World, goal_at, aim, met_by, with_replies}
+use Rattle.game.specs.declared.fault.Reason.{Reason}
 use Rattle.law.specs.Refusals.{Call, enter, settle, query, plan, move, reply, begin, announce, tell, end, strike, by_turn, awaiting_move, by_reply, awaiting_reply, no_board, no_sheet, granted_on, announcing, telling, refusals, first}
 use Rattle.law.specs.Steps.{Answer, entered, planned, struck, with_model, with_plays, begun, announced, answered, Announces, Tells, Ends, Does, Ruled, Step, Run, rest, goes}
 use Rattle.law.specs.Laws.{Played, InPlay}
@@ -20,11 +21,11 @@ use Rattle.law.proofs.Sides.{sides_are_parts}
 use Rattle.law.proofs.Moving.{moves}
 use Rattle.law.proofs.Kept.{Fit, Kept, aim_is, row_plan, settles, play_same, fit_entered, fit_settled, play_settled, fit_planned, fit_struck}
 
-abbrev pub Fails : ℕ × Bool → Type 0
+abbrev pub Fails : Reason × Bool → Type 0
 Fails x = x.1 ≡ false
 
 -- no test of the list holds
-pub passes : (xs : List (ℕ × Bool)) → first xs ≡ None → AllByRecursion Fails xs
+pub passes : (xs : List (Reason × Bool)) → first xs ≡ None → AllByRecursion Fails xs
 passes [] e = tt
 passes (x ∷ xs) e = go x.1 refl e (λ h. passes xs h)
   where
@@ -236,7 +237,7 @@ does_kept M law w (strike n) r w' t h k =
 pub step_kept : (M : Meaning) → Lawful M → (w : World) (c : Call) (r : Answer) (w' : World) → Step M w c r w' → Kept M w → Kept M w'
 step_kept M law w c r w' step k = go (first (refusals M w c)) refl step.is
   where
-    go : (o : Option ℕ) → first (refusals M w c) ≡ o → Ruled M w c o r w' → Kept M w'
+    go : (o : Option Reason) → first (refusals M w c) ≡ o → Ruled M w c o r w' → Kept M w'
     go (Some n) e h = subst (Kept M) (sym h.1) k
     go None e h = does_kept M law w c r w' (passes (refusals M w c) e) h k
 

@@ -11,6 +11,7 @@ use Rattle.game.specs.declared.goal.Goal.TheVariants.{True as TRUE, Atom as ATOM
 use Rattle.game.specs.Goals.{goal_of, strategic}
 use Rattle.game.specs.Formulas.{Aims, of_next, of_always, of_until}
 use Rattle.law.specs.Worlds.{Plan, Model, Play, World, opened, goal_at, met, IsPlan}
+use Rattle.game.specs.declared.fault.Reason.{Reason}
 use Rattle.law.specs.Refusals.{Call, enter, settle, query, plan, move, reply, begin, announce, tell, end, strike, awaiting_move, awaiting_reply, announcing, refusals, first}
 use Rattle.law.specs.Steps.{Answer, number, done, told, entry, outcome, refused, idle, fault, entered, settled_as, planned, struck, with_model, with_plays, begun, announced, answered, Announces, Tells, Ends, Does, Ruled, Step, Run, rest, goes}
 use Rattle.law.specs.Laws.{RunsExist}
@@ -89,7 +90,7 @@ does_exist M law w (strike n) k t = (done, with_model w (struck w.model n), (ref
 step_exists : (M : Meaning) → Lawful M → (w : World) (c : Call) → Kept M w → (r : Answer) × (w' : World) × Step M w c r w'
 step_exists M law w c k = let (r, w', h) = go (first (refusals M w c)) refl in (r, w', record { is = h })
   where
-    go : (o : Option ℕ) → first (refusals M w c) ≡ o → (r : Answer) × (w' : World) × Ruled M w c o r w'
+    go : (o : Option Reason) → first (refusals M w c) ≡ o → (r : Answer) × (w' : World) × Ruled M w c o r w'
     go (Some n) e = (refused (fault n), w, (refl, refl))
     go None e = does_exist M law w c k (all_pass (refusals M w c) e)
 

@@ -16,7 +16,7 @@ use Rattle.game.proofs.Spelling.{decided, spelled, aims_group}
 use Rattle.law.proofs.Kept.{Fit, Kept, aim_is, row_plan, set_of}
 use Rattle.law.proofs.Calls.{run_kept}
 use Rattle.law.proofs.Telling.{run_told}
-use Rattle.law.proofs.Speaking.{spoken, refused_so}
+use Rattle.law.proofs.Speaking.{spoken, refused_so, refused_layer}
 use Rattle.law.proofs.Journeys.{aims_unique, meets, nearer}
 
 pub opened_kept : (M : Meaning) (b : Rows) → Sound b → Kept M (opened b)
@@ -91,4 +91,5 @@ law_stands M law b sound cs rs w run =
       as_told = run_told M (opened b) cs rs w run [] refl;
       speaks = λ c r w' step. spoken M law w w' k (promised M law w k) c r step;
       refuses = λ c r w' step. refused_so M w c r w' step;
+      of_case = λ c r w' step. refused_layer M w c r w' step;
     }

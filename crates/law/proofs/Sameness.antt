@@ -12,6 +12,8 @@ use Rattle.game.specs.declared.goal.Goal.TheVariants.{True as TRUE}
 use Rattle.game.specs.Goals.{word_of, goal_of, same_word, earlier, known, strategic, group_of}
 use Rattle.game.specs.Formulas.{Aims, Holds}
 use Rattle.law.specs.Worlds.{Plan, Model, Play, World, opened, goal_at, planned_goal, aim, met_by, IsPlan, IsReply, with_replies}
+use Rattle.game.specs.declared.fault.Reason.{Reason}
+use Rattle.game.specs.declared.fault.Reason.TheVariants.{NoBoard, NoRow, NotAGoal, NotEarlier, NotKnown, NoSuchGoal, NotSettled, AllSettled, NoSuchState, NotStrategic, NoSheet, Denied, Granted, NotAllowed, PlaysUnderWay, TooManyPlays, NoPlay, TooManySteps, AlreadyMet}
 use Rattle.law.specs.Refusals.{Call, enter, settle, query, plan, move, reply, begin, announce, tell, end, strike, awaiting_move, awaiting_reply, no_board, no_sheet, granted_on, announcing, telling, refusals, first, fits_side}
 use Rattle.law.specs.Steps.{Answer, number, told, entry, outcome, below, with_plays, begun, announced, answered, Announces, Tells, Ends, Does, Ruled, Step, Run, rest, goes}
 use Rattle.law.specs.Laws.{SameAnswers}
@@ -101,7 +103,7 @@ module _ (M : Meaning) (w v : World) (h : Same M w v) (k : Kept M w) where
       let e2 = sheetless M w.model.plan v.model.plan h.plans in
       let e3 = met_equal q.state q.steps in
       let e4 = granted_same M w.model.plan v.model.plan q.state h.plans in
-      λ i. (20, e1 i) ∷ (35, e2 i) ∷ (33, leb M.states q.state) ∷ (43, e3 i) ∷ (36, not (e4 i)) ∷ (42, leb 65535 q.steps) ∷ []
+      λ i. (NoBoard, e1 i) ∷ (NoSheet, e2 i) ∷ (NoSuchState, leb M.states q.state) ∷ (AlreadyMet, e3 i) ∷ (Denied, not (e4 i)) ∷ (TooManySteps, leb 65535 q.steps) ∷ []
 
   telling_same : (o : Option (Play × ℕ)) (b : ℕ) → telling M w o b ≡ telling M v o b
   telling_same None b = refl
@@ -109,32 +111,32 @@ module _ (M : Meaning) (w v : World) (h : Same M w v) (k : Kept M w) where
       let e1 = boardless in
       let e2 = sheetless M w.model.plan v.model.plan h.plans in
       let e3 = aim_same in
-      λ i. (20, e1 i) ∷ (35, e2 i) ∷ (33, leb M.states x.0.state) ∷ (38, not (fits_side M (λ a. not (member (group_of (e3 i)) a)) x.0.state b)) ∷ []
+      λ i. (NoBoard, e1 i) ∷ (NoSheet, e2 i) ∷ (NoSuchState, leb M.states x.0.state) ∷ (NotAllowed, not (fits_side M (λ a. not (member (group_of (e3 i)) a)) x.0.state b)) ∷ []
 
   refusals_same : (c : Call) → refusals M w c ≡ refusals M v c
   refusals_same (enter x) =
       let e1 = boardless in let e2 = h.rows in let e3 = h.goals in
-      λ i. (20, e1 i) ∷ (21, leb (e2 i) (length (e3 i))) ∷ (22, not (same_word x (word_of (goal_of x)))) ∷ (23, not (earlier (length (e3 i)) (goal_of x))) ∷ (24, not (known M (goal_of x))) ∷ []
-  refusals_same settle = let e1 = boardless in let e2 = h.goals in let e3 = h.settled in λ i. (20, e1 i) ∷ (32, leb (length (e2 i)) (e3 i)) ∷ []
+      λ i. (NoBoard, e1 i) ∷ (NoRow, leb (e2 i) (length (e3 i))) ∷ (NotAGoal, not (same_word x (word_of (goal_of x)))) ∷ (NotEarlier, not (earlier (length (e3 i)) (goal_of x))) ∷ (NotKnown, not (known M (goal_of x))) ∷ []
+  refusals_same settle = let e1 = boardless in let e2 = h.goals in let e3 = h.settled in λ i. (NoBoard, e1 i) ∷ (AllSettled, leb (length (e2 i)) (e3 i)) ∷ []
   refusals_same (query f s) =
-      let e1 = boardless in let e2 = h.goals in let e3 = h.settled in λ i. (20, e1 i) ∷ (30, leb (length (e2 i)) f) ∷ (31, leb (e3 i) f) ∷ (33, leb M.states s) ∷ []
+      let e1 = boardless in let e2 = h.goals in let e3 = h.settled in λ i. (NoBoard, e1 i) ∷ (NoSuchGoal, leb (length (e2 i)) f) ∷ (NotSettled, leb (e3 i) f) ∷ (NoSuchState, leb M.states s) ∷ []
   refusals_same (plan f) =
       let e1 = boardless in let e2 = h.goals in let e3 = h.settled in let e4 = h.plays in
-      λ i. (20, e1 i) ∷ (30, leb (length (e2 i)) f) ∷ (31, leb (e3 i) f) ∷ (34, not (strategic (get_or (e2 i) f TRUE))) ∷ (39, not (eqb (length (e4 i)) 0)) ∷ []
+      λ i. (NoBoard, e1 i) ∷ (NoSuchGoal, leb (length (e2 i)) f) ∷ (NotSettled, leb (e3 i) f) ∷ (NotStrategic, not (strategic (get_or (e2 i) f TRUE))) ∷ (PlaysUnderWay, not (eqb (length (e4 i)) 0)) ∷ []
   refusals_same (move s) =
       let e1 = boardless in let e2 = sheetless M w.model.plan v.model.plan h.plans in let e3 = granted_same M w.model.plan v.model.plan s h.plans in
-      λ i. (20, e1 i) ∷ (35, e2 i) ∷ (33, leb M.states s) ∷ (36, not (e3 i)) ∷ []
+      λ i. (NoBoard, e1 i) ∷ (NoSheet, e2 i) ∷ (NoSuchState, leb M.states s) ∷ (Denied, not (e3 i)) ∷ []
   refusals_same (reply s a) =
       let e1 = boardless in let e2 = sheetless M w.model.plan v.model.plan h.plans in let e3 = granted_same M w.model.plan v.model.plan s h.plans in let e4 = aim_same in
-      λ i. (20, e1 i) ∷ (35, e2 i) ∷ (33, leb M.states s) ∷ (37, e3 i) ∷ (38, not (fits_side M (member (group_of (e4 i))) s a)) ∷ []
+      λ i. (NoBoard, e1 i) ∷ (NoSheet, e2 i) ∷ (NoSuchState, leb M.states s) ∷ (Granted, e3 i) ∷ (NotAllowed, not (fits_side M (member (group_of (e4 i))) s a)) ∷ []
   refusals_same (begin s) =
       let e1 = boardless in let e2 = sheetless M w.model.plan v.model.plan h.plans in let e3 = granted_same M w.model.plan v.model.plan s h.plans in let e4 = h.plays in
-      λ i. (20, e1 i) ∷ (35, e2 i) ∷ (33, leb M.states s) ∷ (36, not (e3 i)) ∷ (40, leb 8 (length (e4 i))) ∷ []
+      λ i. (NoBoard, e1 i) ∷ (NoSheet, e2 i) ∷ (NoSuchState, leb M.states s) ∷ (Denied, not (e3 i)) ∷ (TooManyPlays, leb 8 (length (e4 i))) ∷ []
   refusals_same (announce i) = ap (λ qs. announcing M w (awaiting_move (slice_get qs i))) h.plays ∙ announcing_same (awaiting_move (slice_get v.plays i))
   refusals_same (tell i b) = ap (λ qs. telling M w (awaiting_reply (slice_get qs i)) b) h.plays ∙ telling_same (awaiting_reply (slice_get v.plays i)) b
-  refusals_same (end i) = let e1 = boardless in let e2 = h.plays in λ j. (20, e1 j) ∷ (41, eqb (length (e2 j)) 0) ∷ []
+  refusals_same (end i) = let e1 = boardless in let e2 = h.plays in λ j. (NoBoard, e1 j) ∷ (NoPlay, eqb (length (e2 j)) 0) ∷ []
   refusals_same (strike n) =
-      let e1 = boardless in let e2 = h.goals in let e3 = h.plays in λ i. (20, e1 i) ∷ (30, ltb (length (e2 i)) n) ∷ (39, not (eqb (length (e3 i)) 0)) ∷ []
+      let e1 = boardless in let e2 = h.goals in let e3 = h.plays in λ i. (NoBoard, e1 i) ∷ (NoSuchGoal, ltb (length (e2 i)) n) ∷ (PlaysUnderWay, not (eqb (length (e3 i)) 0)) ∷ []
 
 below_same : (M : Meaning) (n : ℕ) (o u : Option Plan) → SamePlans M o u → SamePlans M (below n o) (below n u)
 below_same M n None None h = tt
@@ -313,7 +315,7 @@ module _ (M : Meaning) (law : Lawful M) (w v : World) (h : Same M w v) (k : Kept
   step_same : (c : Call) (r r' : Answer) (w' v' : World) → Step M w c r w' → Step M v c r' v' → (r ≡ r') × Same M w' v'
   step_same c r r' w' v' st st' = go (first (refusals M w c)) refl st.is (subst (λ o. Ruled M v c o r' v') (ap first (sym (refusals_same M w v h k c))) st'.is)
     where
-      go : (o : Option ℕ) → first (refusals M w c) ≡ o → Ruled M w c o r w' → Ruled M v c o r' v' → (r ≡ r') × Same M w' v'
+      go : (o : Option Reason) → first (refusals M w c) ≡ o → Ruled M w c o r w' → Ruled M v c o r' v' → (r ≡ r') × Same M w' v'
       go (Some n) e (er, ew) (er', ev) = (er ∙ sym er', subst₂ (Same M) (sym ew) (sym ev) h)
       go None e d d' = does_same c r r' w' v' (passes (refusals M w c) e) d d'
 

@@ -1,5 +1,5 @@
 -- What the answers say. Assumes nothing.
-use Rattle.std.proofs.Common.{◌≡◌, ℕ, ◌<◌, Bool, true, false, not, ◌↔◌, length, Some, None, Option, sym, refl, ap, ◌∙◌, subst, subst₂, inl, inr, arith}
+use Rattle.std.proofs.Common.{◌≡◌, ℕ, ◌<◌, Bool, true, false, cond, not, ◌↔◌, List, [], ◌∷◌, length, Some, None, Option, sym, refl, ap, ◌∙◌, subst, subst₂, inl, inr, arith}
 use mathlib.Core.Path.{fun_ext}
 use Rattle.std.specs.List.{slice_get, AllByRecursion}
 use Rattle.std.proofs.lemmas.Bool.{not-false, leb-false}
@@ -12,8 +12,11 @@ use Rattle.game.proofs.Strategy.{sheets_agree}
 use Rattle.game.specs.Goals.{group_of}
 use Rattle.game.specs.Formulas.{Aims, formula, Sat}
 use Rattle.law.specs.Worlds.{Plan, Model, Play, World, goal_at, aim, met, with_replies}
-use Rattle.law.specs.Refusals.{Call, enter, settle, query, plan, move, reply, begin, announce, tell, end, strike, awaiting_move, awaiting_reply, granted_on, announcing, refusals, first}
+use Rattle.game.specs.declared.fault.Reason.{Reason}
+use Rattle.law.specs.Refusals.{Call, enter, settle, query, plan, move, reply, begin, announce, tell, end, strike, awaiting_move, awaiting_reply, granted_on, announcing, telling, refusals, first}
+use Rattle.game.specs.Faults.{layer_of}
 use Rattle.game.specs.declared.fault.Fault.{Fault}
+use Rattle.game.specs.declared.fault.Layer.TheVariants.{Case}
 use Rattle.law.specs.Steps.{fault, Answer, number, done, told, entry, outcome, refused, idle, Announces, Tells, Ends, Does, Ruled, Step}
 use Rattle.law.specs.Logs.{accepted}
 use Rattle.law.specs.Laws.{InPlay, Promise, EverySheet, Speaks}
@@ -27,7 +30,7 @@ use Rattle.law.proofs.Journeys.{aims_unique}
 did : (M : Meaning) (w : World) (c : Call) (r : Answer) (w' : World) → Step M w c r w' → accepted r ≡ true → Does M w c r w' × AllByRecursion Fails (refusals M w c)
 did M w c r w' step ok = go (first (refusals M w c)) refl step.is
   where
-    go : (o : Option ℕ) → first (refusals M w c) ≡ o → Ruled M w c o r w' → Does M w c r w' × AllByRecursion Fails (refusals M w c)
+    go : (o : Option Reason) → first (refusals M w c) ≡ o → Ruled M w c o r w' → Does M w c r w' × AllByRecursion Fails (refusals M w c)
     go (Some n) e h = absurd (clash ok (ap accepted h.0))
     go None e h = (h, passes (refusals M w c) e)
 
@@ -66,15 +69,54 @@ never_refused M w (end i) r w' d = go (slice_get w.plays i) d
     go (Some q) (er, ew) = ap refusing er
 never_refused M w (strike k) r w' (er, ew) = ap refusing er
 
-pub refused_so : (M : Meaning) (w : World) (c : Call) (r : Answer) (w' : World) → Step M w c r w' → (e : Fault) → r ≡ refused e → (first (refusals M w c) ≡ Some e.number) × (e ≡ fault e.number) × (w' ≡ w)
+pub refused_so : (M : Meaning) (w : World) (c : Call) (r : Answer) (w' : World) → Step M w c r w' → (e : Fault) → r ≡ refused e → (first (refusals M w c) ≡ Some e.reason) × (e ≡ fault e.reason) × (w' ≡ w)
 refused_so M w c r w' step e er = go (first (refusals M w c)) refl step.is
   where
-    go : (o : Option ℕ) → first (refusals M w c) ≡ o → Ruled M w c o r w' → (first (refusals M w c) ≡ Some e.number) × (e ≡ fault e.number) × (w' ≡ w)
+    go : (o : Option Reason) → first (refusals M w c) ≡ o → Ruled M w c o r w' → (first (refusals M w c) ≡ Some e.reason) × (e ≡ fault e.reason) × (w' ≡ w)
     go (Some n) eo (er', ew) =
         let same : fault n ≡ e = cc in
-        let en : n ≡ e.number = ap (λ (x : Fault). x.number) same in
+        let en : n ≡ e.reason = ap (λ (x : Fault). x.reason) same in
         (eo ∙ ap Some en, sym same ∙ ap fault en, ew)
     go None eo d = absurd (clash (ap refusing er) (never_refused M w c r w' d))
+
+-- every reason in the tables is of the case's layer
+abbrev OfCase : Reason × Bool → Type 0
+OfCase x = layer_of x.0 ≡ Case
+
+first_of : (xs : List (Reason × Bool)) → AllByRecursion OfCase xs → (r : Reason) → first xs ≡ Some r → layer_of r ≡ Case
+first_of [] h r e = absurd (none_some e)
+  where
+    none_some : {r : Reason} → None ≡ Some r → ⊥
+    none_some e = let z : ◌≡◌ {A = ℕ} 0 1 = cc in absurd (omega arith)
+first_of (x ∷ xs) (own, rest) r e = go x.1 e (first_of xs rest r)
+  where
+    go : (b : Bool) → cond b (Some x.0) (first xs) ≡ Some r → (first xs ≡ Some r → layer_of r ≡ Case) → layer_of r ≡ Case
+    go true is more = let same : x.0 ≡ r = cc in subst (λ y. layer_of y ≡ Case) same own
+    go false is more = more is
+
+of_case : (M : Meaning) (w : World) (c : Call) → AllByRecursion OfCase (refusals M w c)
+of_case M w (enter x) = (refl, (refl, (refl, (refl, (refl, tt)))))
+of_case M w settle = (refl, (refl, tt))
+of_case M w (query f s) = (refl, (refl, (refl, (refl, tt))))
+of_case M w (plan f) = (refl, (refl, (refl, (refl, (refl, tt)))))
+of_case M w (move s) = (refl, (refl, (refl, (refl, tt))))
+of_case M w (reply s a) = (refl, (refl, (refl, (refl, (refl, tt)))))
+of_case M w (begin s) = (refl, (refl, (refl, (refl, (refl, tt)))))
+of_case M w (announce i) = go (awaiting_move (slice_get w.plays i))
+  where
+    go : (o : Option Play) → AllByRecursion OfCase (announcing M w o)
+    go None = tt
+    go (Some q) = (refl, (refl, (refl, (refl, (refl, (refl, tt))))))
+of_case M w (tell i b) = go (awaiting_reply (slice_get w.plays i))
+  where
+    go : (o : Option (Play × ℕ)) → AllByRecursion OfCase (telling M w o b)
+    go None = tt
+    go (Some x) = (refl, (refl, (refl, (refl, tt))))
+of_case M w (end i) = (refl, (refl, tt))
+of_case M w (strike k) = (refl, (refl, (refl, tt)))
+
+pub refused_layer : (M : Meaning) (w : World) (c : Call) (r : Answer) (w' : World) → Step M w c r w' → (e : Fault) → r ≡ refused e → layer_of e.reason ≡ Case
+refused_layer M w c r w' step e er = first_of (refusals M w c) (of_case M w c) e.reason (refused_so M w c r w' step e er).0
 
 -- a sheet of the case's goal agrees with every other
 module _ (M : Meaning) (law : Lawful M) (m : Model) (p : Plan) (f : ℕ → ℕ → ℕ) (g₀ : ℕ) (φ₀ : Objective) (aims₀ : Aims m.rows.marked (goal_at m p.goal) g₀ φ₀)

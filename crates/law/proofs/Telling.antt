@@ -4,6 +4,7 @@ use Rattle.std.specs.List.{slice_get, remove}
 use Rattle.std.proofs.lemmas.List.{map_push, map-set, map-append, take-map, drop-map}
 use Rattle.game.specs.Meaning.{Meaning}
 use Rattle.law.specs.Worlds.{Play, World}
+use Rattle.game.specs.declared.fault.Reason.{Reason}
 use Rattle.law.specs.Refusals.{Call, enter, settle, query, plan, move, reply, begin, announce, tell, end, strike, awaiting_move, awaiting_reply, refusals, first}
 use Rattle.law.specs.Steps.{Answer, begun, announced, answered, Announces, Tells, Ends, Does, Ruled, Step, Run, rest, goes}
 use Rattle.law.specs.Logs.{Log, accepted, pending, fresh, said, replied, noted, logged, play_of}
@@ -74,7 +75,7 @@ module _ (M : Meaning) (w : World) (ls : List Log) (h : w.plays ≡ map (play_of
   step_told : (c : Call) (r : Answer) → Step M w c r w' → w'.plays ≡ map (play_of M) (noted ls c r)
   step_told c r step = go (first (refusals M w c)) step.is
     where
-      go : (o : Option ℕ) → Ruled M w c o r w' → w'.plays ≡ map (play_of M) (noted ls c r)
+      go : (o : Option Reason) → Ruled M w c o r w' → w'.plays ≡ map (play_of M) (noted ls c r)
       go (Some n) (er, ew) = idly c r (ap accepted er) ew
       go None d = does_told c r d
 

@@ -12,7 +12,9 @@ use Rattle.game.specs.Goals.{group_of}
 use Rattle.game.specs.Formulas.{Aims, over, formula, Sat}
 use Rattle.law.specs.Worlds.{Plan, Model, to_reply, Play, World, opened, goal_at, aim, met_by, met, led, IsPlan}
 use Rattle.law.specs.Refusals.{Call, query, move, reply, announce, end, refusals, first, fits_side}
+use Rattle.game.specs.Faults.{layer_of}
 use Rattle.game.specs.declared.fault.Fault.{Fault}
+use Rattle.game.specs.declared.fault.Layer.TheVariants.{Case}
 use Rattle.law.specs.Steps.{fault, Answer, told, entry, outcome, refused, Step, Run}
 use Rattle.law.specs.Logs.{play_of, logged}
 
@@ -88,7 +90,9 @@ pub record Stands (M : Meaning) (cs : List Call) (rs : List Answer) (w : World) 
   pub as_told : w.plays ≡ map (play_of M) (logged [] cs rs)
   pub speaks : (call : Call) (r : Answer) (w' : World) → Step M w call r w' → Speaks M w call r
   -- a call is refused by the first test of its list that holds, and then alters nothing
-  pub refuses : (call : Call) (r : Answer) (w' : World) → Step M w call r w' → (e : Fault) → r ≡ refused e → (first (refusals M w call) ≡ Some e.number) × (e ≡ fault e.number) × (w' ≡ w)
+  pub refuses : (call : Call) (r : Answer) (w' : World) → Step M w call r w' → (e : Fault) → r ≡ refused e → (first (refusals M w call) ≡ Some e.reason) × (e ≡ fault e.reason) × (w' ≡ w)
+  -- every refusal is of the case's own layer
+  pub of_case : (call : Call) (r : Answer) (w' : World) → Step M w call r w' → (e : Fault) → r ≡ refused e → layer_of e.reason ≡ Case
 
 abbrev pub Law : Type 0
 Law =

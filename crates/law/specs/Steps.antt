@@ -4,7 +4,7 @@ use Rattle.std.specs.List.{slice_get, remove}
 use Rattle.game.specs.Meaning.{Meaning}
 use Rattle.game.specs.Objectives.{States}
 use Rattle.game.specs.declared.fault.Fault.{Fault}
-use Rattle.game.specs.declared.fault.Layer.TheVariants.{Case}
+use Rattle.game.specs.declared.fault.Reason.{Reason}
 pub use Rattle.law.specs.declared.call.Answer.{Answer}
 pub use Rattle.law.specs.declared.call.Answer.TheVariants.{Number as number, Done as done, Told as told, Entry as entry, Outcome as outcome, Refused as refused, Idle as idle}
 use Rattle.game.specs.declared.goal.Goal.{Goal}
@@ -14,9 +14,9 @@ use Rattle.boards.specs.Meaning.{Rows, known}
 use Rattle.law.specs.Worlds.{Plan, Model, to_move, to_reply, Play, World, goal_at, met, IsPlan, IsReply}
 use Rattle.law.specs.Refusals.{Call, enter, settle, query, plan, move, reply, begin, announce, tell, end, strike, awaiting_move, awaiting_reply, refusals, first}
 
--- A refusal of the case has its layer, and place 0.
-abbrev pub fault : ℕ → Fault
-fault n = record { number = n; layer = Case; place = 0 }
+-- A refusal of the case has place 0.
+abbrev pub fault : Reason → Fault
+fault reason = record { reason = reason; place = 0 }
 
 abbrev pub entered : Model → Goal → Model
 entered m φ = record { goals = m.goals ++ φ ∷ []; settled = m.settled; plan = m.plan; rows = m.rows }
@@ -90,8 +90,8 @@ Does M w (end i) r w' = Ends w i (slice_get w.plays i) r w'
 Does M w (strike k) r w' = (r ≡ done) × (w' ≡ with_model w (struck w.model k))
 
 -- A refused call alters nothing.
-abbrev pub Ruled : Meaning → World → Call → Option ℕ → Answer → World → Type 0
-Ruled M w call (Some n) r w' = (r ≡ refused (fault n)) × (w' ≡ w)
+abbrev pub Ruled : Meaning → World → Call → Option Reason → Answer → World → Type 0
+Ruled M w call (Some reason) r w' = (r ≡ refused (fault reason)) × (w' ≡ w)
 Ruled M w call None r w' = Does M w call r w'
 
 -- A call turns world w into w' with answer r.

@@ -3,7 +3,7 @@ use game::fault::Fault;
 use game::goal::Word;
 
 // Plays are named by their place among those under way.
-#[derive(Clone, Copy)]
+#[derive(Clone, Copy, PartialEq, Eq, Debug)]
 pub enum Call {
     Enter(Word),
     Settle,
@@ -20,7 +20,7 @@ pub enum Call {
 
 // Number is a goal's, Entry a rank and a choice or reply, Outcome the steps of a play and whether it is met.
 // Idle answers a call that names no play, or one of the other sort.
-#[derive(Clone, Copy)]
+#[derive(Clone, Copy, PartialEq, Eq, Debug)]
 pub enum Answer {
     Number(usize),
     Done,

@@ -2,7 +2,6 @@
 #![tactic(auto)]
 
 pub mod objective;
-mod parts;
 pub mod plan;
 pub mod reply;
 pub mod sets;

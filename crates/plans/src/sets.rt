@@ -22,9 +22,7 @@ impl<'a> States for Losing<'a> {
     ghost within = { λ x s. losing x.entries.now x.bound s };
 
     fn has(&self, state: usize) -> bool {
-        if state >= self.entries.len() {
-            return true;
-        }
-        !self.entries[state].granted && self.entries[state].rank <= self.bound
+        let entry = self.entries.get(state).copied().unwrap_or_default();
+        !entry.granted && entry.rank <= self.bound
     }
 }

@@ -1,6 +1,8 @@
 -- What a reader keeps while it goes through the words of a file.
-use Rattle.std.proofs.Common.{◌≡◌, ℕ, ◌+◌, ◌<◌, false, List, [], ◌∷◌, ◌++◌, map, length, Err, vec_items, vec_len, sym, refl, ap, ◌∙◌, subst, append_assoc, append-nil, length-append}
+use Rattle.std.proofs.Common.{◌≡◌, ℕ, ◌+◌, ◌<◌, false, List, [], ◌∷◌, ◌++◌, map, length, None, Err, vec_items, vec_len, sym, refl, ap, ◌∙◌, subst, append_assoc, append-nil, length-append}
 use lib.ListN.{length-map}
+use Rattle.std.specs.Option.{option_map}
+use Rattle.game.specs.declared.fault.Reason.TheVariants as reason
 use Rattle.game.specs.declared.goal.Word.{Word}
 use Rattle.systems.specs.declared.agent.Agent.{Agent}
 use Rattle.procedure.specs.Texts.{agent_text, label_text, agents_words, starts_words, labels_words, system_word, ended, body, written}
@@ -12,8 +14,8 @@ use Rattle.procedure.specs.Reading.{ReadWords, Reads}
 use Rattle.procedure.specs.declared.reader.Reader.{Reader}
 use Rattle.procedure.specs.declared.stage.Stage.{Stage}
 use Rattle.procedure.specs.declared.stage.Stage.TheVariants as stage
-use Rattle.procedure.specs.declared.error.ReadError.{ReadError}
-use Rattle.procedure.specs.declared.error.ReadError.TheVariants.{Refused, Memory}
+use Rattle.game.specs.declared.fault.Stop.{Stop}
+use Rattle.game.specs.declared.fault.Stop.TheVariants.{Refused, Memory}
 
 pub record Going (ws rest : List Word) (place : ℕ) (r : Reader) : Type 0 where
   pub is : ws ≡ said (part r) ++ rest
@@ -83,10 +85,14 @@ going_fresh ws r at fresh =
       flawless = subst Flawless (sym nothing) none;
     }
 
+-- The word that comes is the first of those that are left, at the place of their count.
+pub going_turn : (ws left left' : List Word) (count place : ℕ) (x : Word) (r : Reader) → Going ws left count r → left ≡ x ∷ left' → place ≡ count → Going ws (x ∷ left') place r
+going_turn ws left left' count place x r g first at = subst (λ n. Going ws (x ∷ left') n r) (sym at) (subst (λ v. Going ws v count r) first g)
+
 pub going_more : (ws rest : List Word) (place : ℕ) (x : Word) (r r' : Reader) → Going ws (x ∷ rest) place r →
     Taken r'.stage (said (part r)) x (wrong (holds place r) x) r' → Going ws rest (place + 1) r'
 going_more ws rest place x r r' g t =
-    let right : wrong (known (part r)) x ≡ 0 = ap (λ v. wrong v x) (known_holds r place g.ready g.counted) ∙ t.right in
+    let right : wrong (known (part r)) x ≡ None = ap (λ v. wrong v x) (known_holds r place g.ready g.counted) ∙ t.right in
     record {
       is = g.is ∙ sym (append_assoc (said (part r)) (x ∷ []) rest) ∙ ap (λ v. v ++ rest) (sym t.says);
       ready = t.ready;
@@ -94,28 +100,28 @@ going_more ws rest place x r r' g t =
       flawless = subst Flawless (sym t.says) (more (part r) x (shown r.stage r g.ready) g.flawless right);
     }
 
-pub going_refused : (ws rest : List Word) (place : ℕ) (x : Word) (r r' : Reader) (e : ReadError) → Going ws (x ∷ rest) place r →
+pub going_refused : (ws rest : List Word) (place : ℕ) (x : Word) (r r' : Reader) (e : Stop) → Going ws (x ∷ rest) place r →
     Took (said (part r)) x place (wrong (holds place r) x) {T = Unit {0}} (Err e) r' → ReadWords ws (Err e)
 going_refused ws rest place x r r' (Refused f) g t =
-    let judge : wrong (holds place r) x ≡ wrong (known (part r)) x = ap (λ v. wrong v x) (sym (known_holds r place g.ready g.counted)) in
     record {
       said_part = part r;
       shown = shown r.stage r g.ready;
       flawless = g.flawless;
       rest = x ∷ rest;
       is = g.is;
-      amiss = (t.0 ∙ ap (λ v. fault_at v (wrong (holds place r) x)) g.counted ∙ ap (fault_at (length (said (part r)))) judge, subst (λ v. 0 < v) judge t.1);
+      amiss = t ∙ ap (λ v. option_map (fault_at v) (wrong (holds place r) x)) g.counted
+          ∙ ap (λ v. option_map (fault_at (length (said (part r)))) (wrong v x)) (sym (known_holds r place g.ready g.counted));
     }
 going_refused ws rest place x r r' Memory g t = tt
 
-pub going_missing : (ws : List Word) (place : ℕ) (r : Reader) → Going ws [] place r → (r.stage ≡ stage.Done → ⊥) → Faulty ws (fault_at place 2)
+pub going_missing : (ws : List Word) (place : ℕ) (r : Reader) → Going ws [] place r → (r.stage ≡ stage.Done → ⊥) → Faulty ws (fault_at place reason.Kind)
 going_missing ws place r g undone = record {
   said_part = part r;
   shown = shown r.stage r g.ready;
   flawless = g.flawless;
   rest = [];
   is = g.is;
-  amiss = (ap (λ v. fault_at v 2) g.counted, undone);
+  amiss = (ap (λ v. fault_at v reason.Kind) g.counted, undone);
 }
 
 -- All parts, one after the other.
@@ -138,6 +144,6 @@ going_done ws place r g at =
     (record { is = is ∙ whole_words; aims = ready.0.aims; flawless = subst Flawless (sym is) g.flawless }, ready)
 
 -- What is refused of the words is refused of the file.
-pub reads_refused : (bytes : List ℕ) (e : ReadError) → misfit (length bytes) ≡ false → ReadWords (words bytes) (Err e) → Reads bytes (Err e)
+pub reads_refused : (bytes : List ℕ) (e : Stop) → misfit (length bytes) ≡ false → ReadWords (words bytes) (Err e) → Reads bytes (Err e)
 reads_refused bytes (Refused f) fits wrong = faulty f fits wrong
 reads_refused bytes Memory fits wrong = tt

@@ -1,8 +1,8 @@
 -- What words fix for the next one, gone through from the first to the last.
-use Rattle.std.proofs.Common.{◌≡◌, ℕ, zero, suc, pred, ◌+◌, ◌/◌, ◌%◌, ◌<◌, true, cond, eqb, List, [], ◌∷◌, ◌++◌, map, length, sym, refl, ap, ◌∙◌, subst, append_assoc, append-nil, add-zero, add-suc, suc-add, zero-add, arith}
+use Rattle.std.proofs.Common.{◌≡◌, ℕ, zero, suc, pred, ◌+◌, ◌/◌, ◌%◌, ◌<◌, true, cond, eqb, Option, Some, None, List, [], ◌∷◌, ◌++◌, map, length, sym, refl, ap, ◌∙◌, subst, append_assoc, append-nil, add-zero, add-suc, suc-add, zero-add, arith}
 use Rattle.std.proofs.lemmas.Bool.{and_parts, eqb-true, eq-eqb, ne_eqb}
 use Rattle.game.specs.declared.goal.Word.{Word}
-use Rattle.systems.specs.First.{all_of}
+use Rattle.std.specs.List.{list_all}
 use Rattle.systems.specs.declared.line.Condition.{Condition}
 use Rattle.systems.specs.declared.line.Condition.TheVariants.{Own, First, Action}
 use Rattle.systems.specs.declared.line.LocalState.{LocalState}
@@ -60,15 +60,18 @@ after kind.Start x s = fix stage.Starts s.n s.atoms s.sizes 0 0 0
 after kind.Label x s = fix (in_label x.a) s.n s.atoms s.sizes 0 0 x.a
 after kind.Goal x s = fix stage.Goals s.n s.atoms s.sizes 0 0 0
 after kind.End x s = fix stage.Done s.n s.atoms s.sizes 0 0 0
-after kind.Other x s = s
+
+abbrev after_if : Option Kind → Word → Fixed → Fixed
+after_if None x s = s
+after_if (Some v) x s = after v x s
 
 abbrev pub run : List Word → Fixed → Fixed
 run [] s = s
-run (x ∷ ws) s = run ws (after (kind_of x.kind) x s)
+run (x ∷ ws) s = run ws (after_if (kind_of x.kind) x s)
 
 pub run_append : (ws vs : List Word) (s : Fixed) → run (ws ++ vs) s ≡ run vs (run ws s)
 run_append [] vs s = refl
-run_append (x ∷ ws) vs s = run_append ws vs (after (kind_of x.kind) x s)
+run_append (x ∷ ws) vs s = run_append ws vs (after_if (kind_of x.kind) x s)
 
 -- The numbers of the system word, and the sizes of the agents.
 record Numbers (n a : ℕ) (z : List ℕ) (s : Fixed) : Type 0 where
@@ -188,10 +191,10 @@ module _ (n a : ℕ) (z : List ℕ) where
 
   goals_run : (x : Word) (xs : List Word) (s : Fixed) → Aims (x ∷ xs) → Numbers n a z s → run (x ∷ xs) s ≡ fix stage.Goals n a z 0 0 0
   goals_run x [] s aims h =
-      ap (λ v. after (kind_of v) x s) (eqb-true x.kind 8 (and_parts (eqb x.kind 8) true aims).0) ∙ by_numbers n a z stage.Goals 0 0 0 s h
+      ap (λ v. after_if (kind_of v) x s) (eqb-true x.kind 8 (and_parts (eqb x.kind 8) true aims).0) ∙ by_numbers n a z stage.Goals 0 0 0 s h
   goals_run x (y ∷ xs) s aims h =
-      let p = and_parts (eqb x.kind 8) (all_of (λ v. eqb v.kind 8) (y ∷ xs)) aims in
-      ap (λ v. run (y ∷ xs) (after (kind_of v) x s)) (eqb-true x.kind 8 p.0)
+      let p = and_parts (eqb x.kind 8) (list_all (λ v. eqb v.kind 8) (y ∷ xs)) aims in
+      ap (λ v. run (y ∷ xs) (after_if (kind_of v) x s)) (eqb-true x.kind 8 p.0)
       ∙ goals_run y xs (after kind.Goal x s) p.1 (record { n_is = h.n_is; atoms_is = h.atoms_is; sizes_is = h.sizes_is })
 
   goals_numbers : (xs : List Word) (s : Fixed) → Aims xs → Numbers n a z s → Numbers n a z (run xs s)

@@ -1,8 +1,8 @@
 -- What words say, read from the last to the first.
-use Rattle.std.proofs.Common.{◌≡◌, ℕ, suc, ◌+◌, ◌*◌, ◌/◌, ◌%◌, cond, eqb, List, [], ◌∷◌, ◌++◌, map, length, sym, refl, ap, ◌∙◌, arith}
+use Rattle.std.proofs.Common.{◌≡◌, ℕ, suc, ◌+◌, ◌*◌, ◌/◌, ◌%◌, cond, eqb, Option, Some, None, List, [], ◌∷◌, ◌++◌, map, length, sym, refl, ap, ◌∙◌, arith}
 use Rattle.std.proofs.lemmas.Bool.{and_parts, eqb-true}
 use Rattle.game.specs.declared.goal.Word.{Word}
-use Rattle.systems.specs.First.{all_of}
+use Rattle.std.specs.List.{list_all}
 use Rattle.systems.specs.declared.line.Condition.{Condition}
 use Rattle.systems.specs.declared.line.Condition.TheVariants.{Own, First, Action}
 use Rattle.systems.specs.declared.line.LocalState.{LocalState}
@@ -43,15 +43,18 @@ put kind.Start x s = make s.conditions s.masks s.rules s.agents ((x.c * 256 + x.
 put kind.Label x s = make [] s.masks s.rules s.agents s.starts (record { atom = x.d; conditions = map local_of s.conditions } ∷ s.labels) s.goals s.atoms
 put kind.Goal x s = make s.conditions s.masks s.rules s.agents s.starts s.labels (x ∷ s.goals) s.atoms
 put kind.End x s = s
-put kind.Other x s = s
+
+abbrev put_if : Option Kind → Word → Scan → Scan
+put_if None x s = s
+put_if (Some v) x s = put v x s
 
 abbrev onto : List Word → Scan → Scan
 onto [] s = s
-onto (x ∷ ws) s = put (kind_of x.kind) x (onto ws s)
+onto (x ∷ ws) s = put_if (kind_of x.kind) x (onto ws s)
 
 onto_append : (ws vs : List Word) (s : Scan) → onto (ws ++ vs) s ≡ onto ws (onto vs s)
 onto_append [] vs s = refl
-onto_append (x ∷ ws) vs s = ap (put (kind_of x.kind) x) (onto_append ws vs s)
+onto_append (x ∷ ws) vs s = ap (put_if (kind_of x.kind) x) (onto_append ws vs s)
 
 conditions_back : (cs : List Condition) → map condition_of (map condition_word cs) ≡ cs
 conditions_back [] = refl
@@ -77,8 +80,8 @@ module _ (ms : List ℕ) (rs : List RuleText) (gs : List AgentText) (ss : List �
   goals_scan : (xs : List Word) → Aims xs → onto xs (make [] ms rs gs ss ls [] a) ≡ make [] ms rs gs ss ls xs a
   goals_scan [] aims = refl
   goals_scan (x ∷ xs) aims =
-      let p = and_parts (eqb x.kind 8) (all_of (λ v. eqb v.kind 8) xs) aims in
-      ap (λ v. put (kind_of v) x (onto xs (make [] ms rs gs ss ls [] a))) (eqb-true x.kind 8 p.0) ∙ ap (put kind.Goal x) (goals_scan xs p.1)
+      let p = and_parts (eqb x.kind 8) (list_all (λ v. eqb v.kind 8) xs) aims in
+      ap (λ v. put_if (kind_of v) x (onto xs (make [] ms rs gs ss ls [] a))) (eqb-true x.kind 8 p.0) ∙ ap (put kind.Goal x) (goals_scan xs p.1)
 
   starts_scan : (xs : List ℕ) → onto (starts_words xs) (make [] ms rs gs [] ls fs a) ≡ make [] ms rs gs xs ls fs a
   starts_scan [] = refl

@@ -1,6 +1,10 @@
 -- A file has one verdict.
-use Rattle.std.proofs.Common.{◌≡◌, ℕ, zero, suc, ◌/◌, ◌%◌, ◌<◌, ◌⊎◌, List, [], ◌∷◌, ◌++◌, length, sym, refl, ap, ◌∙◌, subst, inl, inr, append-nil, arith, length-append}
+use Rattle.std.proofs.Common.{◌≡◌, ℕ, zero, suc, ◌/◌, ◌%◌, ◌<◌, ◌⊎◌, Option, Some, None, List, [], ◌∷◌, ◌++◌, length, sym, refl, ap, ◌∙◌, subst, inl, inr, append-nil, arith, length-append}
 use Rattle.std.proofs.lemmas.Bool.{both_ways}
+use Rattle.std.specs.Option.{option_map}
+use Rattle.std.proofs.lemmas.Option.{none-some, same_Some}
+use Rattle.game.specs.declared.fault.Reason.{Reason}
+use Rattle.game.specs.declared.fault.Reason.TheVariants as reason
 use Rattle.game.specs.declared.goal.Word.{Word}
 use Rattle.game.specs.declared.fault.Fault.{Fault}
 use Rattle.procedure.specs.Words.{w, words}
@@ -31,58 +35,58 @@ Free stage.LabelLine = Unit {0}
 Free stage.Goals = Unit {0}
 Free stage.Done = Unit {0}
 
-free_same : (v : Kind) (s : Stage) → Free s → (n a : ℕ) (z : List ℕ) (st l m l' m' c : ℕ) (x : Word) →
+free_same : (v : Option Kind) (s : Stage) → Free s → (n a : ℕ) (z : List ℕ) (st l m l' m' c : ℕ) (x : Word) →
     wrong_of v (make s n a z st l m c) x ≡ wrong_of v (make s n a z st l' m' c) x
-free_same kind.System s free n a z st l m l' m' c x = refl
-free_same kind.Agent s free n a z st l m l' m' c x = refl
-free_same kind.Protocol stage.Begin free n a z st l m l' m' c x = refl
-free_same kind.Protocol stage.Agents free n a z st l m l' m' c x = refl
-free_same kind.Protocol stage.Protocols free n a z st l m l' m' c x = absurd free
-free_same kind.Protocol stage.Rules free n a z st l m l' m' c x = absurd free
-free_same kind.Protocol stage.RuleLine free n a z st l m l' m' c x = absurd free
-free_same kind.Protocol stage.Starts free n a z st l m l' m' c x = refl
-free_same kind.Protocol stage.Labels free n a z st l m l' m' c x = refl
-free_same kind.Protocol stage.LabelLine free n a z st l m l' m' c x = refl
-free_same kind.Protocol stage.Goals free n a z st l m l' m' c x = refl
-free_same kind.Protocol stage.Done free n a z st l m l' m' c x = refl
-free_same kind.Rule stage.Begin free n a z st l m l' m' c x = refl
-free_same kind.Rule stage.Agents free n a z st l m l' m' c x = refl
-free_same kind.Rule stage.Protocols free n a z st l m l' m' c x = absurd free
-free_same kind.Rule stage.Rules free n a z st l m l' m' c x = absurd free
-free_same kind.Rule stage.RuleLine free n a z st l m l' m' c x = absurd free
-free_same kind.Rule stage.Starts free n a z st l m l' m' c x = refl
-free_same kind.Rule stage.Labels free n a z st l m l' m' c x = refl
-free_same kind.Rule stage.LabelLine free n a z st l m l' m' c x = refl
-free_same kind.Rule stage.Goals free n a z st l m l' m' c x = refl
-free_same kind.Rule stage.Done free n a z st l m l' m' c x = refl
-free_same kind.Condition stage.Begin free n a z st l m l' m' c x = refl
-free_same kind.Condition stage.Agents free n a z st l m l' m' c x = refl
-free_same kind.Condition stage.Protocols free n a z st l m l' m' c x = absurd free
-free_same kind.Condition stage.Rules free n a z st l m l' m' c x = absurd free
-free_same kind.Condition stage.RuleLine free n a z st l m l' m' c x = absurd free
-free_same kind.Condition stage.Starts free n a z st l m l' m' c x = refl
-free_same kind.Condition stage.Labels free n a z st l m l' m' c x = refl
-free_same kind.Condition stage.LabelLine free n a z st l m l' m' c x = refl
-free_same kind.Condition stage.Goals free n a z st l m l' m' c x = refl
-free_same kind.Condition stage.Done free n a z st l m l' m' c x = refl
-free_same kind.Start s free n a z st l m l' m' c x = refl
-free_same kind.Label s free n a z st l m l' m' c x = refl
-free_same kind.Goal s free n a z st l m l' m' c x = refl
-free_same kind.End s free n a z st l m l' m' c x = refl
-free_same kind.Other s free n a z st l m l' m' c x = refl
+free_same None s free n a z st l m l' m' c x = refl
+free_same (Some kind.System) s free n a z st l m l' m' c x = refl
+free_same (Some kind.Agent) s free n a z st l m l' m' c x = refl
+free_same (Some kind.Protocol) stage.Begin free n a z st l m l' m' c x = refl
+free_same (Some kind.Protocol) stage.Agents free n a z st l m l' m' c x = refl
+free_same (Some kind.Protocol) stage.Protocols free n a z st l m l' m' c x = absurd free
+free_same (Some kind.Protocol) stage.Rules free n a z st l m l' m' c x = absurd free
+free_same (Some kind.Protocol) stage.RuleLine free n a z st l m l' m' c x = absurd free
+free_same (Some kind.Protocol) stage.Starts free n a z st l m l' m' c x = refl
+free_same (Some kind.Protocol) stage.Labels free n a z st l m l' m' c x = refl
+free_same (Some kind.Protocol) stage.LabelLine free n a z st l m l' m' c x = refl
+free_same (Some kind.Protocol) stage.Goals free n a z st l m l' m' c x = refl
+free_same (Some kind.Protocol) stage.Done free n a z st l m l' m' c x = refl
+free_same (Some kind.Rule) stage.Begin free n a z st l m l' m' c x = refl
+free_same (Some kind.Rule) stage.Agents free n a z st l m l' m' c x = refl
+free_same (Some kind.Rule) stage.Protocols free n a z st l m l' m' c x = absurd free
+free_same (Some kind.Rule) stage.Rules free n a z st l m l' m' c x = absurd free
+free_same (Some kind.Rule) stage.RuleLine free n a z st l m l' m' c x = absurd free
+free_same (Some kind.Rule) stage.Starts free n a z st l m l' m' c x = refl
+free_same (Some kind.Rule) stage.Labels free n a z st l m l' m' c x = refl
+free_same (Some kind.Rule) stage.LabelLine free n a z st l m l' m' c x = refl
+free_same (Some kind.Rule) stage.Goals free n a z st l m l' m' c x = refl
+free_same (Some kind.Rule) stage.Done free n a z st l m l' m' c x = refl
+free_same (Some kind.Condition) stage.Begin free n a z st l m l' m' c x = refl
+free_same (Some kind.Condition) stage.Agents free n a z st l m l' m' c x = refl
+free_same (Some kind.Condition) stage.Protocols free n a z st l m l' m' c x = absurd free
+free_same (Some kind.Condition) stage.Rules free n a z st l m l' m' c x = absurd free
+free_same (Some kind.Condition) stage.RuleLine free n a z st l m l' m' c x = absurd free
+free_same (Some kind.Condition) stage.Starts free n a z st l m l' m' c x = refl
+free_same (Some kind.Condition) stage.Labels free n a z st l m l' m' c x = refl
+free_same (Some kind.Condition) stage.LabelLine free n a z st l m l' m' c x = refl
+free_same (Some kind.Condition) stage.Goals free n a z st l m l' m' c x = refl
+free_same (Some kind.Condition) stage.Done free n a z st l m l' m' c x = refl
+free_same (Some kind.Start) s free n a z st l m l' m' c x = refl
+free_same (Some kind.Label) s free n a z st l m l' m' c x = refl
+free_same (Some kind.Goal) s free n a z st l m l' m' c x = refl
+free_same (Some kind.End) s free n a z st l m l' m' c x = refl
 
 -- Before the system word its numbers do not matter either.
-begin_same : (v : Kind) (n a l m : ℕ) (x : Word) → wrong_of v (make stage.Begin n a [] 1 l m 0) x ≡ wrong_of v (make stage.Begin 0 0 [] 1 0 0 0) x
-begin_same kind.System n a l m x = refl
-begin_same kind.Agent n a l m x = refl
-begin_same kind.Protocol n a l m x = refl
-begin_same kind.Rule n a l m x = refl
-begin_same kind.Condition n a l m x = refl
-begin_same kind.Start n a l m x = refl
-begin_same kind.Label n a l m x = refl
-begin_same kind.Goal n a l m x = refl
-begin_same kind.End n a l m x = refl
-begin_same kind.Other n a l m x = refl
+begin_same : (v : Option Kind) (n a l m : ℕ) (x : Word) → wrong_of v (make stage.Begin n a [] 1 l m 0) x ≡ wrong_of v (make stage.Begin 0 0 [] 1 0 0 0) x
+begin_same None n a l m x = refl
+begin_same (Some kind.System) n a l m x = refl
+begin_same (Some kind.Agent) n a l m x = refl
+begin_same (Some kind.Protocol) n a l m x = refl
+begin_same (Some kind.Rule) n a l m x = refl
+begin_same (Some kind.Condition) n a l m x = refl
+begin_same (Some kind.Start) n a l m x = refl
+begin_same (Some kind.Label) n a l m x = refl
+begin_same (Some kind.Goal) n a l m x = refl
+begin_same (Some kind.End) n a l m x = refl
 
 -- What the words of a part fix is what the next word is judged by.
 abbrev seen : Fixed → ℕ → Known
@@ -91,7 +95,7 @@ seen s c = make s.stage s.n s.atoms s.sizes (product s.sizes) s.locals s.masks c
 abbrev known_at : Stage → Part → Known
 known_at s p = make s p.n p.atoms (sizes_at s p) (product (sizes_at s p)) p.locals (length p.masks) (length (told s p))
 
-abbrev judge : List Word → Word → ℕ
+abbrev judge : List Word → Word → Option Reason
 judge ws x = wrong (seen (run ws start) (length ws)) x
 
 rule_some : (k : ℕ) → 0 < k → in_rule k ≡ stage.RuleLine
@@ -185,35 +189,38 @@ record Follows (vs : List Word) (x : Word) : Type 0 where
   by : Part
   shown : Shown by.stage by
   is : said by ≡ vs
-  right : wrong (known by) x ≡ 0
+  right : wrong (known by) x ≡ None
 
 flawless_at : (us : List Word) → Flawless us → (vs : List Word) (x : Word) (rest : List Word) → us ≡ vs ++ (x ∷ rest) → Follows vs x
 flawless_at us none vs x rest e = absurd (omega (arith, ap length e, length-append vs (x ∷ rest)))
 flawless_at us (more p y shown before right) vs x rest e =
     elim (snoc_split (said p) y vs x rest e) [
-      | inl h ↦ record { by = p; shown = shown; is = h.0; right = subst (λ v. wrong (known p) v ≡ 0) h.1 right }
+      | inl h ↦ record { by = p; shown = shown; is = h.0; right = subst (λ v. wrong (known p) v ≡ None) h.1 right }
       | inr h ↦ flawless_at (said p) before vs x h.0 h.1
     ]
 
-never : (us : List Word) → Flawless us → (p : Part) → Shown p.stage p → (x : Word) (rest : List Word) → us ≡ said p ++ (x ∷ rest) → 0 < wrong (known p) x → ⊥
-never us flawless p shown x rest e bad =
-    let f = flawless_at us flawless (said p) x rest e in
-    omega (arith, same_judgement p f.by x shown f.shown (sym f.is), f.right)
+never : (us : List Word) → Flawless us → (p : Part) → Shown p.stage p → (x : Word) (rest : List Word) (f : Fault) → us ≡ said p ++ (x ∷ rest) →
+    Amiss p (x ∷ rest) f → ⊥
+never us flawless p shown x rest f e bad =
+    let h = flawless_at us flawless (said p) x rest e in
+    none-some f (ap (option_map (fault_at (length (said p)))) (sym h.right ∙ same_judgement h.by p x h.shown shown h.is) ∙ sym bad)
 
-amiss_head : (p : Part) (rest : List Word) (f : Fault) (x : Word) (m : List Word) → rest ≡ x ∷ m → Amiss p rest f → 0 < wrong (known p) x
-amiss_head p rest f x m e h = (subst (λ v. Amiss p v f) e h).1
+amiss_head : (p : Part) (rest : List Word) (f : Fault) (x : Word) (m m' : List Word) → rest ≡ x ∷ m → Amiss p rest f → Amiss p (x ∷ m') f
+amiss_head p rest f x m m' e h = subst (λ v. Amiss p v f) e h
 
 amiss_same : (p q : Part) (rest : List Word) (f f' : Fault) → Shown p.stage p → Shown q.stage q → said p ≡ said q → Amiss p rest f → Amiss q rest f' → f ≡ f'
-amiss_same p q [] f f' sp sq same h k = h.0 ∙ ap (λ v. fault_at (length v) 2) same ∙ sym k.0
+amiss_same p q [] f f' sp sq same h k = h.0 ∙ ap (λ v. fault_at (length v) reason.Kind) same ∙ sym k.0
 amiss_same p q (x ∷ rest) f f' sp sq same h k =
-    h.0 ∙ ap (λ v. fault_at (length v) (wrong (known p) x)) same ∙ ap (fault_at (length (said q))) (same_judgement p q x sp sq same) ∙ sym k.0
+    same_Some f f'
+    (h ∙ ap (λ v. option_map (fault_at (length v)) (wrong (known p) x)) same
+    ∙ ap (option_map (fault_at (length (said q)))) (same_judgement p q x sp sq same) ∙ sym k)
 
 faulty_same : (ws : List Word) (f f' : Fault) → Faulty ws f → Faulty ws f' → f ≡ f'
 faulty_same ws f f' h k =
     elim (parting (said h.said_part) h.rest (said k.said_part) k.rest (sym h.is ∙ k.is)) [
       | even e g ↦ amiss_same h.said_part k.said_part k.rest f f' h.shown k.shown e (subst (λ v. Amiss h.said_part v f) g h.amiss) k.amiss
-      | later x m e g ↦ absurd (never (said k.said_part) k.flawless h.said_part h.shown x m e (amiss_head h.said_part h.rest f x (m ++ k.rest) g h.amiss))
-      | sooner x m e g ↦ absurd (never (said h.said_part) h.flawless k.said_part k.shown x m e (amiss_head k.said_part k.rest f' x (m ++ h.rest) g k.amiss))
+      | later x m e g ↦ absurd (never (said k.said_part) k.flawless h.said_part h.shown x m f e (amiss_head h.said_part h.rest f x (m ++ k.rest) m g h.amiss))
+      | sooner x m e g ↦ absurd (never (said h.said_part) h.flawless k.said_part k.shown x m f' e (amiss_head k.said_part k.rest f' x (m ++ h.rest) m g k.amiss))
     ]
 
 -- After an end word all is read.
@@ -225,7 +232,7 @@ written_done d p shown e =
 
 faulty_apart : (ws : List Word) (d : Description) (p : Part) (rest : List Word) (f : Fault) → Shown p.stage p → Flawless ws → ws ≡ written d → ws ≡ said p ++ rest → Amiss p rest f → ⊥
 faulty_apart ws d p [] f shown flawless is parts h = h.1 (written_done d p shown (sym is ∙ parts ∙ append-nil (said p)))
-faulty_apart ws d p (x ∷ rest) f shown flawless is parts h = never ws flawless p shown x rest parts h.1
+faulty_apart ws d p (x ∷ rest) f shown flawless is parts h = never ws flawless p shown x rest f parts h
 
 refusals_same : (bytes : List ℕ) (f f' : Fault) → Refusal bytes f → Refusal bytes f' → f ≡ f'
 refusals_same bytes f f' (misfits h) (misfits k) = refl

@@ -1,30 +1,27 @@
 -- What reading a list of words gives. Assumes nothing.
-use Rattle.std.specs.Prelude.{◌≡◌, ℕ, ◌/◌, ◌%◌, ◌<◌, Bool, true, false, cond, not, ◌||◌, List, [], ◌∷◌, ◌++◌, length, ◌==◌, ◌≢◌, nat_lt}
+use Rattle.std.specs.Prelude.{◌≡◌, ℕ, ◌/◌, ◌%◌, Bool, true, false, not, ◌||◌, Some, None, List, [], ◌∷◌, ◌++◌, length, ◌==◌, ◌≢◌, nat_lt}
+use Rattle.std.specs.Option.{option_map}
 use Rattle.game.specs.declared.goal.Word.{Word}
 use Rattle.game.specs.declared.fault.Fault.{Fault}
-use Rattle.game.specs.declared.fault.Layer.{Layer}
-use Rattle.game.specs.declared.fault.Layer.TheVariants as layer
+use Rattle.game.specs.declared.fault.Reason.{Reason}
+use Rattle.game.specs.declared.fault.Reason.TheVariants as reason
 use Rattle.procedure.specs.Words.{words}
 use Rattle.procedure.specs.Texts.{Description, written}
 use Rattle.procedure.specs.Parts.{Part, said, Shown, Aims, known, wrong}
 use Rattle.procedure.specs.declared.stage.Stage.TheVariants as stage
 
--- 1, 2 and 3 are of a word, 4 of a record, 6 and 8 of a system.
-abbrev pub layer_of : ℕ → Layer
-layer_of number = cond (nat_lt number 4) layer.Word (cond (number == 4) layer.Record layer.System)
-
-abbrev pub fault_at : ℕ → ℕ → Fault
-fault_at place number = record { number = number; layer = layer_of number; place = place }
+abbrev pub fault_at : ℕ → Reason → Fault
+fault_at place reason = record { reason = reason; place = place }
 
 -- Each of the words may follow those before it.
 pub data Flawless : List Word → Type 0 where
   none : Flawless []
-  more : (p : Part) (x : Word) → Shown p.stage p → Flawless (said p) → wrong (known p) x ≡ 0 → Flawless (said p ++ (x ∷ []))
+  more : (p : Part) (x : Word) → Shown p.stage p → Flawless (said p) → wrong (known p) x ≡ None → Flawless (said p ++ (x ∷ []))
 
 -- After what a part says, the next word is wrong, or missing.
 abbrev pub Amiss : Part → List Word → Fault → Type 0
-Amiss p [] f = (f ≡ fault_at (length (said p)) 2) × (p.stage ≢ stage.Done)
-Amiss p (x ∷ rest) f = (f ≡ fault_at (length (said p)) (wrong (known p) x)) × (0 < wrong (known p) x)
+Amiss p [] f = (f ≡ fault_at (length (said p)) reason.Kind) × (p.stage ≢ stage.Done)
+Amiss p (x ∷ rest) f = Some f ≡ option_map (fault_at (length (said p))) (wrong (known p) x)
 
 -- The fault is of the first wrong word: the words before it are what a part says, each of them right.
 pub record Faulty (ws : List Word) (f : Fault) : Type 0 where
@@ -47,7 +44,7 @@ misfit n = n == 0 || (not (n % 4 == 0) || nat_lt 16384 n)
 
 -- The refusals of a file.
 pub data Refusal (bytes : List ℕ) : Fault → Type 0 where
-  misfits : misfit (length bytes) ≡ true → Refusal bytes (fault_at (length bytes / 4) 1)
+  misfits : misfit (length bytes) ≡ true → Refusal bytes (fault_at (length bytes / 4) reason.Length)
   faulty : (f : Fault) → misfit (length bytes) ≡ false → Faulty (words bytes) f → Refusal bytes f
 
 -- A file that is accepted, and what it says.

@@ -1,7 +1,9 @@
 -- A part of a description, what it says in words, and which word cannot follow. Assumes nothing.
-use Rattle.std.specs.Prelude.{◌≡◌, ℕ, ◌+◌, ◌*◌, ◌<◌, Bool, true, false, cond, ◌&&◌, ◌||◌, List, [], ◌∷◌, ◌++◌, map, length, ◌==◌, nat_eq, nat_le, nat_lt, slice_index}
+use Rattle.std.specs.Prelude.{◌≡◌, ℕ, ◌+◌, ◌*◌, ◌<◌, Bool, true, false, cond, ◌&&◌, ◌||◌, List, [], ◌∷◌, ◌++◌, map, length, Option, Some, None, ◌==◌, nat_eq, nat_le, nat_lt, slice_index}
 use Rattle.game.specs.declared.goal.Word.{Word}
-use Rattle.systems.specs.First.{all_of}
+use Rattle.std.specs.List.{list_all}
+use Rattle.game.specs.declared.fault.Reason.{Reason}
+use Rattle.game.specs.declared.fault.Reason.TheVariants as reason
 use Rattle.systems.specs.declared.line.Condition.{Condition}
 use Rattle.systems.specs.declared.line.LocalState.{LocalState}
 use Rattle.procedure.specs.Kinds.{kind_of, number_of}
@@ -69,7 +71,7 @@ whole p = record { agents = p.agents; atoms = p.atoms; starts = p.starts; labels
 
 -- Words of kind 8.
 abbrev pub Aims : List Word → Type 0
-Aims goals = all_of (λ x. nat_eq x.kind 8) goals ≡ true
+Aims goals = list_all (λ x. nat_eq x.kind 8) goals ≡ true
 
 -- The stage of a part is the one that its words show.
 abbrev pub Shown : Stage → Part → Type 0
@@ -159,7 +161,6 @@ spare kind.Start x = x.a + x.b
 spare kind.Label x = x.b + x.c
 spare kind.Goal x = 0
 spare kind.End x = x.a + x.b
-spare kind.Other x = 0
 
 -- The numbers that each record may hold.
 abbrev pub system_fits : Word → Bool
@@ -210,47 +211,46 @@ in_range kind.Start k x = start_fits k.states x
 in_range kind.Label k x = line_fits k.atoms x
 in_range kind.Goal k x = true
 in_range kind.End k x = true
-in_range kind.Other k x = true
 
 -- More than 1,024 states; another count in the end word than the words before it.
-abbrev pub crowded : ℕ → Word → ℕ
-crowded states x = cond (nat_lt 1024 (states * x.c)) 6 0
+abbrev pub crowded : ℕ → Word → Option Reason
+crowded states x = cond (nat_lt 1024 (states * x.c)) (Some reason.Crowded) None
 
-abbrev pub miscounted : ℕ → Word → ℕ
-miscounted words x = cond (x.c * 256 + x.d == words) 0 8
+abbrev pub miscounted : ℕ → Word → Option Reason
+miscounted words x = cond (x.c * 256 + x.d == words) None (Some reason.Count)
 
-abbrev pub amiss : Kind → Known → Word → ℕ
-amiss kind.System k x = 0
+abbrev pub amiss : Kind → Known → Word → Option Reason
+amiss kind.System k x = None
 amiss kind.Agent k x = crowded k.states x
-amiss kind.Protocol k x = 0
-amiss kind.Rule k x = 0
-amiss kind.Condition k x = 0
-amiss kind.Start k x = 0
-amiss kind.Label k x = 0
-amiss kind.Goal k x = 0
+amiss kind.Protocol k x = None
+amiss kind.Rule k x = None
+amiss kind.Condition k x = None
+amiss kind.Start k x = None
+amiss kind.Label k x = None
+amiss kind.Goal k x = None
 amiss kind.End k x = miscounted k.words x
-amiss kind.Other k x = 0
 
--- After the end word no word is expected, and its number is another.
-abbrev pub unexpected : Stage → ℕ
-unexpected stage.Begin = 2
-unexpected stage.Agents = 2
-unexpected stage.Protocols = 2
-unexpected stage.Rules = 2
-unexpected stage.RuleLine = 2
-unexpected stage.Starts = 2
-unexpected stage.Labels = 2
-unexpected stage.LabelLine = 2
-unexpected stage.Goals = 2
-unexpected stage.Done = 8
+-- After the end word no word is expected, whatever its kind.
+abbrev pub unexpected : Stage → Reason
+unexpected stage.Begin = reason.Kind
+unexpected stage.Agents = reason.Kind
+unexpected stage.Protocols = reason.Kind
+unexpected stage.Rules = reason.Kind
+unexpected stage.RuleLine = reason.Kind
+unexpected stage.Starts = reason.Kind
+unexpected stage.Labels = reason.Kind
+unexpected stage.LabelLine = reason.Kind
+unexpected stage.Goals = reason.Kind
+unexpected stage.Done = reason.Count
 
 -- The first that fits of: an unused field is not 0, a number out of its range, and what else is amiss.
-abbrev pub judged : (spare : ℕ) → (fits : Bool) → (amiss : ℕ) → ℕ
-judged unused fits other = cond (unused == 0) (cond fits other 4) 3
+abbrev pub judged : (spare : ℕ) → (fits : Bool) → (amiss : Option Reason) → Option Reason
+judged unused fits other = cond (unused == 0) (cond fits other (Some reason.Range)) (Some reason.Unused)
 
--- The number of the refusal of a word, 0 where it may follow.
-abbrev pub wrong_of : Kind → Known → Word → ℕ
-wrong_of v k x = cond (expected k.stage (length k.sizes) k.n v) (judged (spare v x) (in_range v k x) (amiss v k x)) (unexpected k.stage)
+-- Why a word is refused, if it may not follow. A word of no kind is never expected.
+abbrev pub wrong_of : Option Kind → Known → Word → Option Reason
+wrong_of None k x = Some (unexpected k.stage)
+wrong_of (Some v) k x = cond (expected k.stage (length k.sizes) k.n v) (judged (spare v x) (in_range v k x) (amiss v k x)) (Some (unexpected k.stage))
 
-abbrev pub wrong : Known → Word → ℕ
+abbrev pub wrong : Known → Word → Option Reason
 wrong k x = wrong_of (kind_of x.kind) k x

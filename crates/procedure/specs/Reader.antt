@@ -1,7 +1,8 @@
 -- What the reader holds. Assumes nothing.
-use Rattle.std.specs.Prelude.{◌≡◌, ℕ, ◌<◌, ◌≤◌, true, ◌&&◌, ltb, List, [], ◌∷◌, ◌++◌, map, Ok, Err, vec_items, vec_len, Result, nat_lt}
+use Rattle.std.specs.Prelude.{◌≡◌, ℕ, ◌<◌, ◌≤◌, true, ◌&&◌, ltb, List, [], ◌∷◌, ◌++◌, map, Option, Some, None, Ok, Err, vec_items, vec_len, Result, nat_lt}
+use Rattle.std.specs.Option.{option_map}
 use Rattle.game.specs.declared.goal.Word.{Word}
-use Rattle.systems.specs.First.{all_of}
+use Rattle.std.specs.List.{list_all}
 use Rattle.systems.specs.declared.line.Condition.{Condition}
 use Rattle.systems.specs.declared.line.LocalState.{LocalState}
 use Rattle.systems.specs.declared.line.Rule.{Rule}
@@ -12,8 +13,9 @@ use Rattle.procedure.specs.Faults.{fault_at}
 use Rattle.procedure.specs.declared.reader.Reader.{Reader}
 use Rattle.procedure.specs.declared.stage.Stage.{Stage}
 use Rattle.procedure.specs.declared.stage.Stage.TheVariants as stage
-use Rattle.procedure.specs.declared.error.ReadError.{ReadError}
-use Rattle.procedure.specs.declared.error.ReadError.TheVariants.{Refused, Memory}
+use Rattle.game.specs.declared.fault.Reason.{Reason}
+use Rattle.game.specs.declared.fault.Stop.{Stop}
+use Rattle.game.specs.declared.fault.Stop.TheVariants.{Refused, Memory}
 
 -- The part of a description that has been read.
 abbrev pub part : Reader → Part
@@ -62,8 +64,8 @@ pub record Sized (sizes : List ℕ) (states : ℕ) : Type 0 where
 pub record Draft (locals : ℕ) (masks : List ℕ) (rules : List Rule) : Type 0 where
   pub one : 1 ≤ locals
   pub few : locals ≤ 16
-  pub allows : all_of (λ m. nat_lt 0 m && nat_lt m 16) masks ≡ true
-  pub lands : all_of (λ r. ltb r.next locals) rules ≡ true
+  pub allows : list_all (λ m. nat_lt 0 m && nat_lt m 16) masks ≡ true
+  pub lands : list_all (λ r. ltb r.next locals) rules ≡ true
 
 -- What is empty while agents are read.
 pub record Later (ss : List ℕ) (ls : List Label) (fs : List Word) (ts : List LocalState) : Type 0 where
@@ -115,7 +117,7 @@ pub record Complete (r : Reader) : Type 0 where
   pub sized : Sized (vec_items r.sizes) r.states
   pub sizes : vec_items r.sizes ≡ map (λ g. g.locals) (vec_items r.agents)
   pub all : vec_len r.agents ≡ r.n
-  pub known : all_of (λ s. ltb s r.states) (vec_items r.starts) ≡ true
+  pub known : list_all (λ s. ltb s r.states) (vec_items r.starts) ≡ true
   pub aims : Aims (vec_items r.goals)
 
 -- What the reader keeps at each stage.
@@ -151,14 +153,14 @@ pub record ClosedLabel (r r' : Reader) : Type 0 where
   pub ready : Ready stage.Labels r'
   pub says : labelled (part r') ≡ labelled (part r) ++ (label_word (vec_len r.wants) r.line ∷ map local_word (vec_items r.wants))
 
--- A word with the judgement `number` has been taken after the words before it.
-pub record Taken (s : Stage) (before : List Word) (x : Word) (number : ℕ) (r : Reader) : Type 0 where
-  pub right : number ≡ 0
+-- A word with nothing wrong has been taken after the words before it.
+pub record Taken (s : Stage) (before : List Word) (x : Word) (wrong : Option Reason) (r : Reader) : Type 0 where
+  pub right : wrong ≡ None
   pub says : told s (part r) ≡ before ++ (x ∷ [])
   pub ready : Ready s r
 
--- What a record reader does with a word at a place: it takes it, or refuses it with its judgement.
-abbrev pub Took : List Word → Word → (place number : ℕ) → {T : Type 0} → Result T ReadError → Reader → Type 0
-Took before x place number (Ok v) r = Taken r.stage before x number r
-Took before x place number (Err (Refused f)) r = (f ≡ fault_at place number) × (0 < number)
-Took before x place number (Err Memory) r = Unit {0}
+-- What a record reader does with a word at a place: it takes it, or refuses it for what is wrong.
+abbrev pub Took : List Word → Word → (place : ℕ) → (wrong : Option Reason) → {T : Type 0} → Result T Stop → Reader → Type 0
+Took before x place wrong (Ok v) r = Taken r.stage before x wrong r
+Took before x place wrong (Err (Refused f)) r = Some f ≡ option_map (fault_at place) wrong
+Took before x place wrong (Err Memory) r = Unit {0}

@@ -1,8 +1,9 @@
 // The kinds of words.
-ghost use Rattle.std.specs.Prelude.{◌≡◌};
-ghost use Rattle.procedure.specs.Kinds.{kind_of as kind_by, Names};
+ghost use Rattle.procedure.specs.Kinds.{NamesKind};
 
-#[derive(Clone, Copy)]
+use game::fault::Reason;
+
+#[derive(Clone, Copy, PartialEq, Eq, Debug)]
 pub enum Kind {
     System,
     Agent,
@@ -13,23 +14,26 @@ pub enum Kind {
     Label,
     Goal,
     End,
-    Other,
 }
 
-pub(crate) fn kind_of(number: u8) -> Kind
-    ensures is { result ≡ kind_by number }
-    ensures names { Names result number }
-{
-    match number {
-        1 => Kind::System,
-        2 => Kind::Agent,
-        3 => Kind::Protocol,
-        4 => Kind::Rule,
-        5 => Kind::Condition,
-        6 => Kind::Start,
-        7 => Kind::Label,
-        8 => Kind::Goal,
-        9 => Kind::End,
-        _ => Kind::Other,
+// The kind that has a number.
+impl TryFrom<u8> for Kind {
+    type Error = Reason;
+
+    ghost try_from_gives = { NamesKind };
+
+    fn try_from(number: u8) -> Result<Kind, Reason> {
+        match number {
+            1 => Ok(Kind::System),
+            2 => Ok(Kind::Agent),
+            3 => Ok(Kind::Protocol),
+            4 => Ok(Kind::Rule),
+            5 => Ok(Kind::Condition),
+            6 => Ok(Kind::Start),
+            7 => Ok(Kind::Label),
+            8 => Ok(Kind::Goal),
+            9 => Ok(Kind::End),
+            _ => Err(Reason::Kind),
+        }
     }
 }

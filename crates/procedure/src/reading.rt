@@ -8,12 +8,11 @@ ghost use Rattle.procedure.specs.Faults.{misfit};
 ghost use Rattle.procedure.specs.Reading.{Reads, ReadWords, Puts};
 ghost use Rattle.procedure.specs.declared.stage.Stage.TheVariants as stage;
 
-use crate::error::ReadError;
-use crate::faults::fault;
 use crate::procedure::Procedure;
 use crate::reader::Reader;
 use crate::stage::Stage;
-use crate::word::split_word;
+use crate::word::Words;
+use game::fault::{Fault, Reason, Stop};
 use std::alloc::Global;
 use systems::agents::AgentsSystem;
 
@@ -25,31 +24,34 @@ fn misfits(length: usize) -> bool
 }
 
 // Reads a file: the system and the goal words that it says, or the first word that is wrong.
-pub fn read_whole(heap: Global, bytes: &[u8]) -> Result<Procedure, ReadError>
+pub fn read_whole(heap: Global, bytes: &[u8]) -> Result<Procedure, Stop>
     ensures { Reads bytes.now result }
 {
-    if misfits(bytes.len()) {
-        return Err(fault(bytes.len() / 4, 1));
+    let length = bytes.len();
+    if misfits(length) {
+        return Err(Stop::Refused(Fault {
+            reason: Reason::Length,
+            place: length / 4,
+        }));
     }
     let reader = read_words(heap, bytes)?;
     Ok(reader.procedure())
 }
 
 // Reads the words of a file.
-fn read_words(heap: Global, bytes: &[u8]) -> Result<Reader, ReadError>
+fn read_words(heap: Global, bytes: &[u8]) -> Result<Reader, Stop>
     ensures { ReadWords (words bytes.now) result }
 {
     let mut reader = fresh(heap);
-    let mut rest = bytes;
-    let mut place = 0;
-    while let Some((word, after)) = split_word(rest) {
+    for (place, word) in Words(bytes).enumerate() {
         reader.step(heap, place, word)?;
-        rest = after;
-        place += 1;
     }
     match reader.stage {
         Stage::Done => Ok(reader),
-        _ => Err(fault(place, 2)),
+        _ => Err(Stop::Refused(Fault {
+            reason: Reason::Kind,
+            place: bytes.len() / 4,
+        })),
     }
 }
 
@@ -100,11 +102,7 @@ impl Reader {
 
 // Reads a file into its place, and hands out the part of the file that holds the goal words, their fields as they are. A refusal
 // leaves the place as it was.
-pub fn read<'a>(
-    heap: Global,
-    bytes: &'a [u8],
-    place: &mut AgentsSystem,
-) -> Result<&'a [u8], ReadError>
+pub fn read<'a>(heap: Global, bytes: &'a [u8], place: &mut AgentsSystem) -> Result<&'a [u8], Stop>
     ensures { Puts bytes.now place.old place.new result }
 {
     let procedure = read_whole(heap, bytes)?;

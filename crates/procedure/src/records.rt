@@ -1,15 +1,15 @@
 // The readers of records.
-ghost use Rattle.std.specs.Prelude.{◌≡◌, ◌+◌, ◌<◌, true, false, [], length, vec_len, MatchResult, slice_index};
+ghost use Rattle.std.specs.Prelude.{◌≡◌, ◌+◌, ◌<◌, true, false, [], length, vec_len, None, MatchOption, MatchResult, slice_index};
 ghost use Rattle.procedure.specs.Parts.{told, heads, begun, ruled, labelled, aimed, judged, unnamed, system_fits, agent_fits, protocol_fits, line_fits, test_fits, want_fits, start_fits, crowded, miscounted};
 ghost use Rattle.procedure.specs.Reader.{part, Took, Ready, Within, Between, Complete, Finished, ClosedRule, ClosedLabel};
 ghost use Rattle.procedure.specs.Texts.{condition_word};
 ghost use Rattle.procedure.specs.declared.stage.Stage.TheVariants as stage;
-ghost use Rattle.procedure.specs.declared.error.ReadError.TheVariants.{Memory};
+ghost use Rattle.game.specs.declared.fault.Stop.TheVariants.{Memory};
 
-use crate::error::ReadError;
-use crate::faults::{fault, ranged, unused};
+use crate::faults::{ranged, unused};
 use crate::reader::Reader;
 use crate::stage::Stage;
+use game::fault::{Fault, Reason, Stop};
 use game::goal::Word;
 use std::alloc::Global;
 use systems::agent::Agent;
@@ -34,11 +34,11 @@ fn line_fits(word: Word, limit: u8) -> bool
 }
 
 impl Reader {
-    pub(crate) fn system(&mut self, place: usize, word: Word) -> Result<(), ReadError>
+    pub(crate) fn system(&mut self, place: usize, word: Word) -> Result<(), Stop>
         requires at { self.old.stage ≡ stage.Begin }
         requires kind { word.kind ≡ 1 }
         requires ready { Ready stage.Begin self.old }
-        ensures { Took [] word place (judged word.a (system_fits word) 0) result self.new }
+        ensures { Took [] word place (judged word.a (system_fits word) None) result self.new }
     {
         unused(place, word.a, 0)?;
         ranged(
@@ -51,7 +51,7 @@ impl Reader {
         Ok(())
     }
 
-    pub(crate) fn agent(&mut self, place: usize, word: Word) -> Result<(), ReadError>
+    pub(crate) fn agent(&mut self, place: usize, word: Word) -> Result<(), Stop>
         requires kind { word.kind ≡ 2 }
         requires between { Between self.old }
         requires more { vec_len self.old.sizes < self.old.n }
@@ -65,7 +65,10 @@ impl Reader {
         )?;
         let states = self.states as u32 * word.c as u32;
         if states > 1024 {
-            return Err(fault(place, 6));
+            return Err(Stop::Refused(Fault {
+                reason: Reason::Crowded,
+                place,
+            }));
         }
         self.sizes.push(word.c)?;
         self.states = states as u16;
@@ -74,12 +77,12 @@ impl Reader {
         Ok(())
     }
 
-    pub(crate) fn protocol(&mut self, place: usize, word: Word) -> Result<(), ReadError>
+    pub(crate) fn protocol(&mut self, place: usize, word: Word) -> Result<(), Stop>
         requires at { self.old.stage ≡ stage.Protocols }
         requires kind { word.kind ≡ 3 }
         requires ready { Ready stage.Protocols self.old }
         ensures { Took (told stage.Protocols (part self.old)) word place
-            (judged (word.a + word.b) (protocol_fits (vec_len self.old.masks) word) 0) result self.new }
+            (judged (word.a + word.b) (protocol_fits (vec_len self.old.masks) word) None) result self.new }
     {
         unused(place, word.a, word.b)?;
         ranged(
@@ -93,12 +96,12 @@ impl Reader {
         Ok(())
     }
 
-    pub(crate) fn rule(&mut self, heap: Global, place: usize, word: Word) -> Result<(), ReadError>
+    pub(crate) fn rule(&mut self, heap: Global, place: usize, word: Word) -> Result<(), Stop>
         requires at { self.old.stage ≡ stage.Rules }
         requires kind { word.kind ≡ 4 }
         requires ready { Ready stage.Rules self.old }
         ensures { Took (told stage.Rules (part self.old)) word place
-            (judged (word.b + word.c) (line_fits self.old.locals word) 0) result self.new }
+            (judged (word.b + word.c) (line_fits self.old.locals word) None) result self.new }
     {
         unused(place, word.b, word.c)?;
         ranged(place, line_fits(word, self.locals))?;
@@ -112,7 +115,7 @@ impl Reader {
     }
 
     // The rule line under way has all its conditions.
-    fn close_rule(&mut self, heap: Global) -> Result<(), ReadError>
+    fn close_rule(&mut self, heap: Global) -> Result<(), Stop>
         requires within { Within self.old }
         requires masks { vec_len self.old.masks ≡ self.old.locals }
         requires lands { self.old.line < self.old.locals }
@@ -132,17 +135,20 @@ impl Reader {
         heap: Global,
         place: usize,
         word: Word,
-    ) -> Result<(), ReadError>
+    ) -> Result<(), Stop>
         requires at { self.old.stage ≡ stage.RuleLine }
         requires kind { word.kind ≡ 5 }
         requires ready { Ready stage.RuleLine self.old }
         ensures { Took (told stage.RuleLine (part self.old)) word place
-            (judged (word.c + unnamed word) (test_fits self.old.locals (slice_index self.old.sizes.items 0) self.old.n word) 0)
+            (judged (word.c + unnamed word) (test_fits self.old.locals (slice_index self.old.sizes.items 0) self.old.n word) None)
             result self.new }
     {
         unused(place, word.c, idle(word))?;
-        ranged(place, self.test_fits(word))?;
-        self.tests.push(condition_of(word))?;
+        let test = self.test(word).ok_or(Fault {
+            reason: Reason::Range,
+            place,
+        })?;
+        self.tests.push(test)?;
         self.left -= 1;
         if self.left == 0 {
             return self.close_rule(heap);
@@ -150,22 +156,22 @@ impl Reader {
         Ok(())
     }
 
-    // The numbers of a rule line's condition are in their ranges.
-    fn test_fits(&self, word: Word) -> bool
+    // The condition of a rule line that a word says, where its numbers are in their ranges.
+    fn test(&self, word: Word) -> Option<Condition>
         requires { 0 < vec_len self.now.sizes }
-        ensures is { result ≡ test_fits self.now.locals (slice_index self.now.sizes.items 0) self.now.n word }
-        ensures sort { result ≡ true → word.a < 3 }
+        ensures { MatchOption result (test_fits self.now.locals (slice_index self.now.sizes.items 0) self.now.n word ≡ false)
+            (λ t. (test_fits self.now.locals (slice_index self.now.sizes.items 0) self.now.n word ≡ true) × (word.kind ≡ 5 → word.c + unnamed word ≡ 0 → condition_word t ≡ word)) }
     {
         match word.a {
-            0 => word.d < self.locals,
-            1 => word.d < self.sizes[0],
-            2 => word.b < self.n && word.d < 4,
-            _ => false,
+            0 if word.d < self.locals => Some(Condition::Own(word.d)),
+            1 if word.d < self.sizes[0] => Some(Condition::First(word.d)),
+            2 if word.b < self.n && word.d < 4 => Some(Condition::Action(word.b, word.d)),
+            _ => None,
         }
     }
 
     // The agent under way has all its rule lines.
-    fn finish(&mut self, heap: Global) -> Result<(), ReadError>
+    fn finish(&mut self, heap: Global) -> Result<(), Stop>
         requires ready { Ready stage.Rules self.old }
         ensures { MatchResult result (λ _. Finished self.old self.new) (λ e. e ≡ Memory) }
     {
@@ -180,12 +186,7 @@ impl Reader {
     }
 
     // The agent word after another agent.
-    pub(crate) fn next_agent(
-        &mut self,
-        heap: Global,
-        place: usize,
-        word: Word,
-    ) -> Result<(), ReadError>
+    pub(crate) fn next_agent(&mut self, heap: Global, place: usize, word: Word) -> Result<(), Stop>
         requires kind { word.kind ≡ 2 }
         requires ready { Ready stage.Rules self.old }
         requires more { vec_len self.old.sizes < self.old.n }
@@ -197,28 +198,23 @@ impl Reader {
     }
 
     // The start word after the last agent.
-    pub(crate) fn first_start(
-        &mut self,
-        heap: Global,
-        place: usize,
-        word: Word,
-    ) -> Result<(), ReadError>
+    pub(crate) fn first_start(&mut self, heap: Global, place: usize, word: Word) -> Result<(), Stop>
         requires kind { word.kind ≡ 6 }
         requires ready { Ready stage.Rules self.old }
         requires last { vec_len self.old.sizes ≡ self.old.n }
         ensures { Took (ruled (part self.old)) word place
-            (judged (word.a + word.b) (start_fits self.old.states word) 0) result self.new }
+            (judged (word.a + word.b) (start_fits self.old.states word) None) result self.new }
     {
         self.finish(heap)?;
         self.start(place, word)
     }
 
-    pub(crate) fn start(&mut self, place: usize, word: Word) -> Result<(), ReadError>
+    pub(crate) fn start(&mut self, place: usize, word: Word) -> Result<(), Stop>
         requires kind { word.kind ≡ 6 }
         requires complete { Complete self.old }
         requires none { (self.old.labels.items ≡ []) × (self.old.goals.items ≡ []) × (self.old.wants.items ≡ []) }
         ensures { Took (begun (part self.old)) word place
-            (judged (word.a + word.b) (start_fits self.old.states word) 0) result self.new }
+            (judged (word.a + word.b) (start_fits self.old.states word) None) result self.new }
     {
         unused(place, word.a, word.b)?;
         let state = word.c as u16 * 256 + word.d as u16;
@@ -228,14 +224,14 @@ impl Reader {
         Ok(())
     }
 
-    pub(crate) fn label(&mut self, heap: Global, place: usize, word: Word) -> Result<(), ReadError>
+    pub(crate) fn label(&mut self, heap: Global, place: usize, word: Word) -> Result<(), Stop>
         requires kind { word.kind ≡ 7 }
         requires complete { Complete self.old }
         requires begins { 0 < vec_len self.old.starts }
         requires goals { self.old.goals.items ≡ [] }
         requires none { self.old.wants.items ≡ [] }
         ensures { Took (labelled (part self.old)) word place
-            (judged (word.b + word.c) (line_fits self.old.atoms word) 0) result self.new }
+            (judged (word.b + word.c) (line_fits self.old.atoms word) None) result self.new }
     {
         unused(place, word.b, word.c)?;
         ranged(place, line_fits(word, self.atoms))?;
@@ -253,19 +249,19 @@ impl Reader {
         heap: Global,
         place: usize,
         word: Word,
-    ) -> Result<(), ReadError>
+    ) -> Result<(), Stop>
         requires at { self.old.stage ≡ stage.LabelLine }
         requires kind { word.kind ≡ 5 }
         requires ready { Ready stage.LabelLine self.old }
         ensures { Took (told stage.LabelLine (part self.old)) word place
-            (judged (word.c + unnamed word) (want_fits self.old.sizes.items word) 0) result self.new }
+            (judged (word.c + unnamed word) (want_fits self.old.sizes.items word) None) result self.new }
     {
         unused(place, word.c, idle(word))?;
-        ranged(place, self.want_fits(word))?;
-        self.wants.push(LocalState {
-            agent: word.b,
-            value: word.d,
+        let want = self.want(word).ok_or(Fault {
+            reason: Reason::Range,
+            place,
         })?;
+        self.wants.push(want)?;
         self.left -= 1;
         if self.left == 0 {
             return self.close_label(heap);
@@ -273,18 +269,20 @@ impl Reader {
         Ok(())
     }
 
-    // The numbers of a label line's condition are in their ranges.
-    fn want_fits(&self, word: Word) -> bool
-        ensures { result ≡ want_fits self.now.sizes.items word }
+    // The condition of a label line that a word says, where its numbers are in their ranges. An agent that there is not has no local
+    // states.
+    fn want(&self, word: Word) -> Option<LocalState>
+        ensures { MatchOption result (want_fits self.now.sizes.items word ≡ false)
+            (λ t. (want_fits self.now.sizes.items word ≡ true) × (t ≡ record { agent = word.b; value = word.d })) }
     {
-        if word.b as usize >= self.sizes.len() {
-            return false;
-        }
-        word.a == 3 && word.d < self.sizes[word.b as usize]
+        let agent = word.b;
+        let value = word.d;
+        let size = self.sizes.get(usize::from(agent)).copied().unwrap_or(0);
+        (word.a == 3 && value < size).then_some(LocalState { agent, value })
     }
 
     // The label line under way has all its conditions.
-    fn close_label(&mut self, heap: Global) -> Result<(), ReadError>
+    fn close_label(&mut self, heap: Global) -> Result<(), Stop>
         requires complete { Complete self.old }
         requires begins { 0 < vec_len self.old.starts }
         requires goals { self.old.goals.items ≡ [] }
@@ -300,18 +298,18 @@ impl Reader {
     }
 
     // The fields of a goal word are left as they are.
-    pub(crate) fn goal(&mut self, place: usize, word: Word) -> Result<(), ReadError>
+    pub(crate) fn goal(&mut self, place: usize, word: Word) -> Result<(), Stop>
         requires kind { word.kind ≡ 8 }
         requires complete { Complete self.old }
         requires begins { 0 < vec_len self.old.starts }
-        ensures { Took (aimed (part self.old)) word place 0 result self.new }
+        ensures { Took (aimed (part self.old)) word place None result self.new }
     {
         self.goals.push(word)?;
         self.stage = Stage::Goals;
         Ok(())
     }
 
-    pub(crate) fn end(&mut self, place: usize, word: Word) -> Result<(), ReadError>
+    pub(crate) fn end(&mut self, place: usize, word: Word) -> Result<(), Stop>
         requires kind { word.kind ≡ 9 }
         requires complete { Complete self.old }
         requires begins { 0 < vec_len self.old.starts }
@@ -320,23 +318,12 @@ impl Reader {
     {
         unused(place, word.a, word.b)?;
         if word.c as usize * 256 + word.d as usize != place {
-            return Err(fault(place, 8));
+            return Err(Stop::Refused(Fault {
+                reason: Reason::Count,
+                place,
+            }));
         }
         self.stage = Stage::Done;
         Ok(())
-    }
-}
-
-// The condition of a rule line that a word says.
-fn condition_of(word: Word) -> Condition
-    requires kind { word.kind ≡ 5 }
-    requires sort { word.a < 3 }
-    requires spare { word.c + unnamed word ≡ 0 }
-    ensures { condition_word result ≡ word }
-{
-    match word.a {
-        0 => Condition::Own(word.d),
-        1 => Condition::First(word.d),
-        _ => Condition::Action(word.b, word.d),
     }
 }

@@ -1,5 +1,6 @@
 // The words of a file: 32 bits, the lowest byte first. The top 4 bits are the kind, then a (4 bits), b, c and d (8 bits each).
 ghost use Rattle.std.specs.Prelude.{◌≡◌, ◌+◌, ◌<◌, ◌∷◌, length, MatchOption};
+ghost use Rattle.std.specs.Iterator.{YieldsFirst, item_count};
 ghost use Rattle.procedure.specs.Words.{words};
 
 use game::goal::Word;
@@ -20,5 +21,23 @@ pub fn split_word(bytes: &[u8]) -> Option<(Word, &[u8])>
             Some((word, rest))
         }
         _ => None,
+    }
+}
+
+// The words of a file, from its start.
+#[derive(Clone, Copy)]
+pub struct Words<'a>(pub &'a [u8]);
+
+impl<'a> Iterator for Words<'a> {
+    type Item = Word;
+
+    ghost next_gives = { YieldsFirst (λ s. words s.0.now) };
+
+    ghost remaining = { item_count (λ s. words s.0.now) };
+
+    fn next(&mut self) -> Option<Word> {
+        let (word, rest) = split_word(self.0)?;
+        self.0 = rest;
+        Some(word)
     }
 }

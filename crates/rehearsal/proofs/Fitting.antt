@@ -4,6 +4,7 @@ use Rattle.std.specs.List.{slice_get, AllByRecursion}
 use Rattle.std.proofs.lemmas.Bool.{eqb-true}
 use Rattle.game.specs.Meaning.{Meaning}
 use Rattle.game.specs.declared.fault.Fault.{Fault}
+use Rattle.game.specs.declared.fault.Reason.{Reason}
 use Rattle.game.proofs.Bounded.{true_or_false, clash}
 use Rattle.law.specs.Worlds.{Model, Play, World}
 use Rattle.law.specs.Refusals.{awaiting_move, awaiting_reply, announcing, telling, no_board, refusals, first}
@@ -76,7 +77,7 @@ Fit M w = 0 < length w.plays → no_board M w.model ≡ false
 pub step_fit : (M : Meaning) (w : World) (c : Call) (r : Answer) (w' : World) → Step M w c r w' → Fit M w → Fit M w'
 step_fit M w c r w' step fit = go (first (refusals M w c)) refl step.is
   where
-    go : (o : Option ℕ) → first (refusals M w c) ≡ o → Ruled M w c o r w' → Fit M w'
+    go : (o : Option Reason) → first (refusals M w c) ≡ o → Ruled M w c o r w' → Fit M w'
     go (Some n) e (er, ew) = subst (Fit M) (sym ew) fit
     go None e d = elim (true_or_false (no_board M w.model)) [
       | inl bad ↦ subst (Fit M) (sym (unfit_same M w c r w' bad (passes (refusals M w c) e) d)) fit
@@ -97,6 +98,6 @@ never_refused M m qs i q e w good some at step = go (first (refusals M (world m 
     ended None none d = let z : ◌≡◌ {A = ℕ} 0 1 = cc in omega arith
     ended (Some x) there (er, ew) = let z : ◌≡◌ {A = ℕ} 0 1 = cc in omega arith
 
-    go : (o : Option ℕ) → first (refusals M (world m qs) (End i)) ≡ o → Ruled M (world m qs) (End i) o (Refused e) w → ⊥
+    go : (o : Option Reason) → first (refusals M (world m qs) (End i)) ≡ o → Ruled M (world m qs) (End i) o (Refused e) w → ⊥
     go (Some n) eo d = let no_number : None ≡ Some n = sym tests ∙ eo in let z : ◌≡◌ {A = ℕ} 0 1 = cc in omega arith
     go None eo d = ended (slice_get qs i) refl d

@@ -3,6 +3,7 @@ use Rattle.std.proofs.Common.{◌≡◌, ℕ, zero, suc, ◌<◌, ◌≤◌, Lis
 use Rattle.std.specs.List.{slice_get, insert, remove}
 use Rattle.std.proofs.lemmas.Bool.{leb-false}
 use Rattle.game.specs.Meaning.{Meaning}
+use Rattle.game.specs.declared.fault.Reason.{Reason}
 use Rattle.law.specs.Worlds.{Model, Play, World}
 use Rattle.law.specs.Refusals.{refusals, first}
 use Rattle.law.specs.Steps.{Ruled, Step}
@@ -83,7 +84,7 @@ turn_served M m ts ts' i t t' call r less is turns e qs h =
 pub begun_few : (M : Meaning) (m : Model) (qs : List Play) (s : ℕ) (w : World) → Step M (world m qs) (Begin s) Done w → length qs < 8
 begun_few M m qs s w step = go (first (refusals M (world m qs) (Begin s))) refl step.is
   where
-    go : (o : Option ℕ) → first (refusals M (world m qs) (Begin s)) ≡ o → Ruled M (world m qs) (Begin s) o Done w → length qs < 8
+    go : (o : Option Reason) → first (refusals M (world m qs) (Begin s)) ≡ o → Ruled M (world m qs) (Begin s) o Done w → length qs < 8
     go (Some n) e (r, same) = let z : ◌≡◌ {A = ℕ} 0 1 = cc in absurd (omega arith)
     go None e h = leb-false _ _ (passes (refusals M (world m qs) (Begin s)) e).1.1.1.1.0
 

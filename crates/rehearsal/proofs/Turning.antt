@@ -14,11 +14,13 @@ use Rattle.cases.specs.declared.play.AwaitingReply.{AwaitingReply}
 use Rattle.cases.specs.declared.outcome.Play.{Play as Token}
 use Rattle.cases.specs.declared.outcome.Play.TheVariants.{Move, Reply}
 use Rattle.cases.specs.declared.outcome.Announced.{Announced}
-use Rattle.cases.specs.declared.outcome.Unannounced.{Unannounced}
-use Rattle.cases.specs.declared.outcome.Untold.{Untold}
+use Rattle.cases.specs.declared.outcome.HandedBack.{HandedBack}
 use Rattle.cases.specs.Shows.{world}
 use Rattle.cases.specs.Plays.{moving, replying, playing, Announces, Tells}
 use Rattle.cases.proofs.Stepping.{step_does}
+use Rattle.rehearsal.specs.declared.turn.Turn.{Turn}
+use Rattle.rehearsal.specs.declared.turn.Turn.TheVariants as turn
+use Rattle.rehearsal.specs.Turning.{call_of}
 use Rattle.rehearsal.specs.Served.{Turns}
 
 pub set_nth : (qs : List Play) (i : ℕ) (q : Play) → slice_get qs i ≡ Some q → set qs i q ≡ qs
@@ -43,13 +45,17 @@ module _ (M : Meaning) (m : Model) (qs : List Play) (i : ℕ) where
       (subst (λ o. Tells' M (world m qs) i b (awaiting_reply o) Idle (world m qs)) (sym at) (refl, refl))
 
   -- there is no such play
-  pub announce_none : slice_get qs i ≡ None → Step M (world m qs) (Announce i) Idle (world m qs)
+  announce_none : slice_get qs i ≡ None → Step M (world m qs) (Announce i) Idle (world m qs)
   announce_none at = step_does M (world m qs) (Announce i) Idle (world m qs) (ap (λ o. first (announcing M (world m qs) (awaiting_move o))) at)
       (subst (λ o. Announces' (world m qs) i (awaiting_move o) Idle (world m qs)) (sym at) (refl, refl))
 
-  pub tell_none : (b : ℕ) → slice_get qs i ≡ None → Step M (world m qs) (Tell i b) Idle (world m qs)
+  tell_none : (b : ℕ) → slice_get qs i ≡ None → Step M (world m qs) (Tell i b) Idle (world m qs)
   tell_none b at = step_does M (world m qs) (Tell i b) Idle (world m qs) (ap (λ o. first (telling M (world m qs) (awaiting_reply o) b)) at)
       (subst (λ o. Tells' M (world m qs) i b (awaiting_reply o) Idle (world m qs)) (sym at) (refl, refl))
+
+pub turn_none : (M : Meaning) (m : Model) (qs : List Play) (i : ℕ) (t : Turn) → slice_get qs i ≡ None → Step M (world m qs) (call_of t i) Idle (world m qs)
+turn_none M m qs i turn.Announce at = announce_none M m qs i at
+turn_none M m qs i (turn.Tell b) at = tell_none M m qs i b at
 
 module _ (M : Meaning) (m : Model) (p : Token) where
   seen : (t : Token) → p ≡ t → (qs : List Play) (i start : ℕ) (told : List (ℕ × ℕ)) → slice_get qs i ≡ Some (playing start told p) → slice_get qs i ≡ Some (playing start told t)
@@ -63,7 +69,7 @@ module _ (M : Meaning) (m : Model) (p : Token) where
   pub announce_made : (t : AwaitingMove) (x : Announced) → p ≡ Move t → Announces M m t (Ok x) → Turns M m p (λ i. Announce i) (Entry x.rank x.choice) (Reply x.play)
   announce_made t x is h qs i start told at = (told, h qs i start told (seen (Move t) is qs i start told at))
 
-  pub announce_refused : (t : AwaitingMove) (x : Unannounced) → p ≡ Move t → Announces M m t (Err x) → Turns M m p (λ i. Announce i) (Refused x.fault) (Move x.play)
+  pub announce_refused : (t : AwaitingMove) (x : HandedBack AwaitingMove) → p ≡ Move t → Announces M m t (Err x) → Turns M m p (λ i. Announce i) (Refused x.fault) (Move x.play)
   announce_refused t x is h qs i start told at =
       let at' = seen (Move t) is qs i start told at in
       let (step, back) = h qs i start told at' in
@@ -77,7 +83,7 @@ module _ (M : Meaning) (m : Model) (p : Token) where
   pub tell_made : (b : ℕ) (t : AwaitingReply) (x : AwaitingMove) → p ≡ Reply t → Tells M m t b (Ok x) → Turns M m p (λ i. Tell i b) Done (Move x)
   tell_made b t x is h qs i start told at = ((t.choice, b) ∷ told, h qs i start told (seen (Reply t) is qs i start told at))
 
-  pub tell_refused : (b : ℕ) (t : AwaitingReply) (x : Untold) → p ≡ Reply t → Tells M m t b (Err x) → Turns M m p (λ i. Tell i b) (Refused x.fault) (Reply x.play)
+  pub tell_refused : (b : ℕ) (t : AwaitingReply) (x : HandedBack AwaitingReply) → p ≡ Reply t → Tells M m t b (Err x) → Turns M m p (λ i. Tell i b) (Refused x.fault) (Reply x.play)
   tell_refused b t x is h qs i start told at =
       let at' = seen (Reply t) is qs i start told at in
       let (step, state, steps, choice) = h qs i start told at' in

@@ -1,2 +1,2 @@
-pub mod Calling
+pub mod Turning
 pub mod Served

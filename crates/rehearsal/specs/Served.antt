@@ -1,5 +1,5 @@
 -- A call served on a case, with the tokens of the plays under way. Assumes nothing.
-use Rattle.std.specs.Prelude.{◌≡◌, ℕ, List, [], ◌∷◌, length, Some, None, slice_set}
+use Rattle.std.specs.Prelude.{◌≡◌, ℕ, List, [], ◌∷◌, length, Some, None, Ok, Err, Result, slice_set}
 use Rattle.std.specs.List.{slice_get}
 use Rattle.game.specs.Meaning.{Meaning}
 use Rattle.law.specs.Worlds.{Model, Play, World}
@@ -7,6 +7,10 @@ use Rattle.law.specs.Steps.{Step, Run}
 use Rattle.law.specs.declared.call.Call.{Call}
 use Rattle.law.specs.declared.call.Call.TheVariants.{End}
 use Rattle.law.specs.declared.call.Answer.{Answer}
+use Rattle.law.specs.declared.call.Answer.TheVariants.{Done, Refused}
+use Rattle.std.specs.declared.alloc.AllocError.{AllocError}
+use Rattle.game.specs.declared.fault.Stop.{Stop}
+use Rattle.game.specs.declared.fault.Stop.TheVariants as stop
 use Rattle.cases.specs.declared.outcome.Play.{Play as Token}
 use Rattle.cases.specs.Shows.{world}
 use Rattle.cases.specs.Plays.{playing}
@@ -39,3 +43,9 @@ Ran M m ts cs rs m' ts' = (qs : List Play) → Seated ts qs → (qs' : List Play
 -- A list of calls from a case without plays: a run to some world.
 abbrev pub Rehearsed : Meaning → Model → List Call → List Answer → Type 0
 Rehearsed M m cs rs = (w : World) × Run M (world m []) cs rs w
+
+-- The answer of a call that may want memory.
+abbrev pub trial : Result (Unit {0}) Stop → Result Answer AllocError
+trial (Ok x) = Ok Done
+trial (Err (stop.Refused e)) = Ok (Refused e)
+trial (Err stop.Memory) = Err (record {})

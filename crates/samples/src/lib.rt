@@ -3,7 +3,7 @@
 
 #[cfg(test)]
 mod tests {
-    use cases::stop::Stop;
+    use game::fault::Stop;
     use game::system::System;
     use procedure::reading::read_whole;
     use std::alloc::{AllocError, Global};
@@ -11,7 +11,6 @@ mod tests {
     use std::process::Abort;
     use std::test::Fail;
     use verdicts::file::judge_file;
-    use verdicts::refusal::Refusal;
 
     // The van and its counter.
     const VAN: [u32; 24] = [
@@ -37,9 +36,8 @@ mod tests {
                     writeln!(text, "{line}")?;
                 }
             }
-            Err(Stop::Refusal(fault)) => {
-                let refusal = Refusal(fault);
-                writeln!(text, "{refusal}")?;
+            Err(Stop::Refused(fault)) => {
+                writeln!(text, "{fault}")?;
             }
             Err(Stop::Memory) => return Err(Fail::new("out of memory")),
         }

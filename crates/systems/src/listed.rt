@@ -1,6 +1,6 @@
 // A listed game: lists that the check accepts.
 ghost use Rattle.std.specs.Prelude.{◌≡◌, true, nat_lt};
-ghost use Rattle.systems.specs.First.{all_of};
+ghost use Rattle.std.specs.List.{list_all};
 ghost use Rattle.systems.specs.Lists.{accepted};
 
 use crate::lists::Lists;
@@ -9,5 +9,5 @@ use crate::lists::Lists;
 pub struct Game<'a> {
     pub lists: Lists<'a>,
     ghost fine: { accepted lists ≡ true },
-    ghost narrow: { all_of (λ v. nat_lt v 65536) lists.looks.now ≡ true },
+    ghost narrow: { list_all (λ v. nat_lt v 65536) lists.looks.now ≡ true },
 }

@@ -1,6 +1,7 @@
 // What a listed game answers, and how lists become one.
 ghost use Rattle.std.specs.Prelude.{◌≡◌, ◌+◌, ◌<◌, ◌≤◌, true, length, if◌then◌else◌, nat_lt, slice_index};
-ghost use Rattle.systems.specs.First.{given, all_of};
+ghost use Rattle.std.specs.List.{list_all};
+ghost use Rattle.systems.specs.First.{given};
 ghost use Rattle.systems.specs.Fits.{bit, move_fits};
 ghost use Rattle.systems.specs.Joint.{all_below};
 ghost use Rattle.systems.specs.Empty.{empty_game};
@@ -51,7 +52,7 @@ fn empty_lists() -> Lists<'static>
 
 // Every look that is read is a 16-bit number.
 fn walk_looks(looks: &[u16])
-    ensures { all_of (λ v. nat_lt v 65536) looks.now ≡ true }
+    ensures { list_all (λ v. nat_lt v 65536) looks.now ≡ true }
 {
     for look in looks {
         let _read = *look as u32;
@@ -92,16 +93,13 @@ impl<'a> System for Game<'a> {
             return 0;
         }
         let actions = unpack(choice);
-        if !masks_allow(lists.masks, state * lists.agents, lists.agents, actions) {
+        let first = state * lists.agents;
+        if !masks_allow(&lists.masks[first..first + lists.agents], actions) {
             return 0;
         }
-        moved(
-            lists.moves,
-            MoveAt {
-                state: state as u16,
-                actions,
-            },
-        ) as usize
+        let state = state as u16;
+        let at = MoveAt { state, actions };
+        usize::from(first_fit(lists.moves, at).map_or(state, |k| lists.moves[k].next))
     }
 
     fn look(&self, agent: usize, state: usize) -> u16 {
@@ -125,26 +123,13 @@ impl<'a> System for Game<'a> {
     }
 }
 
-// Whether the masks from a place on have each agent's action.
-fn masks_allow(masks: &[u8], place: usize, agents: usize, actions: [u8; 6]) -> bool
-    requires few { agents ≤ 6 }
-    requires within { place + agents ≤ length masks.now }
-    ensures { result ≡ all_below agents (λ i. bit (slice_index masks.now (place + i)) (slice_index actions i)) }
+// Whether each mask has the action of its agent.
+fn masks_allow(masks: &[u8], actions: [u8; 6]) -> bool
+    requires { length masks.now ≤ 6 }
+    ensures { result ≡ all_below (length masks.now) (λ i. bit (slice_index masks.now i) (slice_index actions i)) }
 {
-    for i in 0..agents {
-        if !in_mask(masks[place + i], actions[i]) {
-            return false;
-        }
-    }
-    true
-}
-
-// Where the first move line that fits leads; without one the state stays.
-fn moved(moves: &[MoveLine], at: MoveAt) -> u16
-    ensures { result ≡ given (λ l. move_fits l at) (λ l. l.next) at.state moves.now }
-{
-    match first_fit(moves, at) {
-        Some(k) => moves[k].next,
-        None => at.state,
-    }
+    masks
+        .iter()
+        .zip(&actions)
+        .all(|(&mask, &action)| in_mask(mask, action))
 }

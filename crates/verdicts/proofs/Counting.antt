@@ -5,6 +5,8 @@ use Rattle.std.proofs.lemmas.Bool.{lt-leb, and_parts, and_from, cond_both}
 use Rattle.game.specs.Meaning.{Meaning}
 use Rattle.game.specs.Objectives.{◌∈◌}
 use Rattle.game.specs.declared.fault.Fault.{Fault}
+use Rattle.game.specs.declared.fault.Reason.{Reason}
+use Rattle.game.specs.declared.fault.Reason.TheVariants.{NoBoard, NoSuchGoal, NotSettled, NoSuchState}
 use Rattle.game.proofs.Bounded.{clash}
 use Rattle.law.specs.Worlds.{Model, World}
 use Rattle.law.specs.Refusals.{refusals, first, no_board}
@@ -20,7 +22,7 @@ use Rattle.verdicts.specs.Reports.{count, Reports}
 told_is : (M : Meaning) (w w' : World) (f s : ℕ) (x : Bool) → Step M w (query f s) (told x) w' → x ≡ w.model.rows.marked f s
 told_is M w w' f s x step = go (first (refusals M w (query f s))) step.is
   where
-    go : (o : Option ℕ) → Ruled M w (query f s) o (told x) w' → x ≡ w.model.rows.marked f s
+    go : (o : Option Reason) → Ruled M w (query f s) o (told x) w' → x ≡ w.model.rows.marked f s
     go (Some n) h = let lost : true ≡ false = ap accepted h.0 in absurd (clash refl lost)
     go None h = let same = h.0 in cc
 
@@ -42,7 +44,7 @@ module _ (M : Meaning) (out : ℕ) (m : Model) (f : ℕ) where
   refused_all s e hs h t ht qs eq =
       let x = refused_so M (world m qs) (query f s) _ _ (h qs eq) e refl in
       let known : leb M.states s ≡ leb M.states t = lt-leb _ _ hs ∙ sym (lt-leb _ _ ht) in
-      let same : first (refusals M (world m qs) (query f s)) ≡ first (refusals M (world m qs) (query f t)) = ap (λ b. first ((20, no_board M m) ∷ (30, leb (length m.goals) f) ∷ (31, leb m.settled f) ∷ (33, b) ∷ [])) known in
+      let same : first (refusals M (world m qs) (query f s)) ≡ first (refusals M (world m qs) (query f t)) = ap (λ b. first ((NoBoard, no_board M m) ∷ (NoSuchGoal, leb (length m.goals) f) ∷ (NotSettled, leb m.settled f) ∷ (NoSuchState, b) ∷ [])) known in
       step_refused M (world m qs) (query f t) e (sym same ∙ x.0) x.1
 
   -- after the queries at the states below n

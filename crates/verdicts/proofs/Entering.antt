@@ -4,6 +4,7 @@ use mathlib.Core.List.{map-append}
 use Rattle.game.specs.Meaning.{Meaning}
 use Rattle.game.specs.Goals.{goal_of, word}
 use Rattle.game.specs.declared.fault.Fault.{Fault}
+use Rattle.game.specs.declared.fault.Reason.{Reason}
 use Rattle.game.specs.declared.goal.Word.{Word}
 use Rattle.game.specs.declared.goal.Goal.{Goal}
 use Rattle.game.proofs.Bounded.{clash}
@@ -16,7 +17,7 @@ use Rattle.law.specs.declared.call.Call.{Call}
 use Rattle.law.specs.declared.call.Call.TheVariants.{Enter}
 use Rattle.law.specs.declared.call.Answer.{Answer}
 use Rattle.law.specs.declared.call.Answer.TheVariants.{Number, Refused}
-use Rattle.law.proofs.Speaking.{refused_so}
+use Rattle.law.proofs.Speaking.{refused_so, refused_layer}
 use Rattle.cases.specs.Shows.{world, Calls}
 use Rattle.verdicts.specs.Judging.{word_at, holding, Entered, RefusedWord}
 
@@ -24,7 +25,7 @@ use Rattle.verdicts.specs.Judging.{word_at, holding, Entered, RefusedWord}
 pub did : (M : Meaning) (w : World) (c : Call) (r : Answer) (w' : World) → Step M w c r w' → accepted r ≡ true → (first (refusals M w c) ≡ None) × Does M w c r w'
 did M w c r w' step ok = go (first (refusals M w c)) refl step.is
   where
-    go : (o : Option ℕ) → first (refusals M w c) ≡ o → Ruled M w c o r w' → (first (refusals M w c) ≡ None) × Does M w c r w'
+    go : (o : Option Reason) → first (refusals M w c) ≡ o → Ruled M w c o r w' → (first (refusals M w c) ≡ None) × Does M w c r w'
     go (Some n) e h = absurd (clash ok (ap accepted h.0))
     go None e h = (e, h)
 
@@ -56,9 +57,9 @@ module _ (M : Meaning) (b : Rows) (ws : List Word) where
   entering_all i m le ge h = (λ j lt. h.entered j (omega arith), h.holds ∙ ap (holding b) (take_all i ws le))
 
   pub entering_refused : (i out : ℕ) (m m' : Model) (x : Word) (e : Fault) → Entering M b ws i m → i < length ws → x ≡ word_at ws i → out ≡ 0 → (M' : Meaning) → M' ≡ M → Calls M' out m (Enter x) (Refused e) m' →
-      RefusedWord M b ws (record { number = e.number; layer = e.layer; place = i })
+      RefusedWord M b ws (record { reason = e.reason; place = i })
   entering_refused i out m m' x e h lt ex eo M' em step =
       let step' = subst₂ (λ (N : Meaning) (y : Word). Step N (world m []) (Enter y) (Refused e) (world m' [])) em ex (step [] (sym eo)) in
       let step'' = subst (λ (y : Model). Step M (world y []) (Enter (word_at ws i)) (Refused e) (world m' [])) h.holds step' in
-      let (number, is, same) = refused_so M _ _ _ _ step'' e refl in
-      record { within = lt; before = h.entered; number = number; layer = ap (λ (y : Fault). y.layer) is }
+      let (reason, is, same) = refused_so M _ _ _ _ step'' e refl in
+      record { within = lt; before = h.entered; reason = reason; layer = refused_layer M _ _ _ _ step'' e refl }

@@ -18,8 +18,8 @@ use Rattle.law.specs.declared.call.Answer.{Answer}
 use Rattle.law.proofs.Calls.{passes}
 use Rattle.law.proofs.Lawfully.{law_stands}
 use Rattle.cases.specs.Shows.{world}
-use Rattle.cases.specs.declared.stop.Stop.{Stop}
-use Rattle.cases.specs.declared.stop.Stop.TheVariants.{Memory}
+use Rattle.game.specs.declared.fault.Stop.{Stop}
+use Rattle.game.specs.declared.fault.Stop.TheVariants.{Memory}
 use Rattle.cases.proofs.Stepping.{step_does}
 use Rattle.verdicts.specs.declared.line.Line.{Line}
 use Rattle.verdicts.specs.Reports.{IsLine}

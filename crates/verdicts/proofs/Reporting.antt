@@ -7,6 +7,7 @@ use Rattle.std.proofs.lemmas.List.{get_or_append_left, get_or-append_right, leng
 use Rattle.game.specs.Meaning.{Meaning, Lawful}
 use Rattle.game.specs.Objectives.{States}
 use Rattle.game.specs.declared.fault.Fault.{Fault}
+use Rattle.game.specs.declared.fault.Reason.TheVariants.{NoBoard, NoSuchGoal, NotSettled, NoSuchState}
 use Rattle.law.specs.Worlds.{Model, Play}
 use Rattle.law.specs.Refusals.{refusals, first, no_board}
 use Rattle.law.specs.Steps.{begun}
@@ -26,7 +27,7 @@ has_line M law out m f e fit there settled h =
     let known : leb (length m.goals) f ≡ false = lt-leb _ _ there in
     let done : leb m.settled f ≡ false = lt-leb _ _ settled in
     let zero : leb M.states 0 ≡ false = lt-leb _ _ law.some_state in
-    let none : first (refusals M (world m qs) (Query f 0)) ≡ None = (λ i. cond (fit i) (Some 20) (cond (known i) (Some 30) (cond (done i) (Some 31) (cond (zero i) (Some 33) None)))) in
+    let none : first (refusals M (world m qs) (Query f 0)) ≡ None = (λ i. cond (fit i) (Some NoBoard) (cond (known i) (Some NoSuchGoal) (cond (done i) (Some NotSettled) (cond (zero i) (Some NoSuchState) None)))) in
     some_none (sym number ∙ none)
 
 -- the lines of the first k goals, which are granted on R

@@ -3,6 +3,8 @@ use Rattle.std.proofs.Common.{◌≡◌, ℕ, ◌+◌, ◌<◌, false, cond, not
 use Rattle.std.proofs.lemmas.Bool.{lt-leb}
 use Rattle.game.specs.Meaning.{Meaning}
 use Rattle.game.specs.declared.fault.Fault.{Fault}
+use Rattle.game.specs.declared.fault.Reason.{Reason}
+use Rattle.game.specs.declared.fault.Reason.TheVariants.{NoBoard, AllSettled}
 use Rattle.law.specs.Worlds.{Model, World}
 use Rattle.law.specs.Refusals.{refusals, first, no_board}
 use Rattle.law.specs.Steps.{Step, Run, rest, goes}
@@ -12,12 +14,12 @@ use Rattle.law.specs.declared.call.Answer.{Answer}
 use Rattle.law.specs.declared.call.Answer.TheVariants.{Done, Refused}
 use Rattle.law.proofs.Speaking.{refused_so}
 use Rattle.cases.specs.Shows.{world, Tries}
-use Rattle.cases.specs.declared.stop.Stop.{Stop}
-use Rattle.cases.specs.declared.stop.Stop.TheVariants.{Refusal, Memory}
+use Rattle.game.specs.declared.fault.Stop.{Stop}
+use Rattle.game.specs.declared.fault.Stop.TheVariants.{Refused as Stopped, Memory}
 use Rattle.verdicts.specs.Judging.{Leads}
 use Rattle.verdicts.proofs.Entering.{did}
 
-pub some_none : {n : ℕ} → ◌≡◌ {A = Option ℕ} (Some n) None → ⊥
+pub some_none : {r : Reason} → ◌≡◌ {A = Option Reason} (Some r) None → ⊥
 some_none e = let z : ◌≡◌ {A = ℕ} 0 1 = cc in absurd (omega arith)
 
 -- a run and one call more
@@ -59,10 +61,10 @@ module _ (M : Meaning) (m : Model) where
       let (number, is, same) = refused_so M _ _ _ _ step e refl in
       let fit' : no_board M m' ≡ false = (λ i. eqb (h.leads.rows i) 0 || not (eqb (h.leads.states i) M.states)) ∙ fit in
       let more : leb (length m'.goals) m'.settled ≡ false = lt-leb _ _ (omega (arith, h.settled, ap length h.leads.goals)) in
-      let none : first (refusals M (world m' []) Settle) ≡ None = (λ i. cond (fit' i) (Some 20) (cond (more i) (Some 32) None)) in
+      let none : first (refusals M (world m' []) Settle) ≡ None = (λ i. cond (fit' i) (Some NoBoard) (cond (more i) (Some AllSettled) None)) in
       some_none (sym number ∙ none)
 
   -- so it stops only for want of memory
   pub stops : (k out : ℕ) (m' m'' : Model) → Settling M m k m' → k < length m.goals → no_board M m ≡ false → out ≡ 0 → (M' : Meaning) → M' ≡ M → (e : Stop) → Tries M' out m' Settle (Err e) m'' → e ≡ Memory
-  stops k out m' m'' h lt fit eo M' em (Refusal e) t = absurd (settles k m' m'' e h lt fit (subst (λ (N : Meaning). Step N (world m' []) Settle (Refused e) (world m'' [])) em (t [] (sym eo))))
+  stops k out m' m'' h lt fit eo M' em (Stopped e) t = absurd (settles k m' m'' e h lt fit (subst (λ (N : Meaning). Step N (world m' []) Settle (Refused e) (world m'' [])) em (t [] (sym eo))))
   stops k out m' m'' h lt fit eo M' em Memory t = refl

@@ -5,7 +5,10 @@ use Rattle.game.specs.Meaning.{Meaning}
 use Rattle.game.specs.Objectives.{States, ◌∈◌}
 use Rattle.game.specs.Goals.{goal_of, word}
 use Rattle.game.specs.Formulas.{Formula, Sat, formula}
+use Rattle.game.specs.Faults.{layer_of}
 use Rattle.game.specs.declared.fault.Fault.{Fault}
+use Rattle.game.specs.declared.fault.Stop.{Stop}
+use Rattle.game.specs.declared.fault.Stop.TheVariants.{Refused, Memory}
 use Rattle.game.specs.declared.fault.Layer.TheVariants.{Case}
 use Rattle.game.specs.declared.goal.Word.{Word}
 use Rattle.boards.specs.Meaning.{Rows}
@@ -16,8 +19,6 @@ use Rattle.law.specs.declared.call.Call.{Call}
 use Rattle.law.specs.declared.call.Call.TheVariants.{Enter}
 use Rattle.law.specs.declared.call.Answer.{Answer}
 use Rattle.cases.specs.Shows.{world}
-use Rattle.cases.specs.declared.stop.Stop.{Stop}
-use Rattle.cases.specs.declared.stop.Stop.TheVariants.{Refusal, Memory}
 use Rattle.verdicts.specs.declared.line.Line.{Line}
 use Rattle.verdicts.specs.Reports.{IsLine}
 
@@ -39,8 +40,8 @@ Entered M b ws n = (i : ℕ) → i < n → first (refusals M (world (holding b (
 pub record RefusedWord (M : Meaning) (b : Rows) (ws : List Word) (e : Fault) : Type 0 where
   pub within : e.place < length ws
   pub before : Entered M b ws e.place
-  pub number : first (refusals M (world (holding b (take e.place ws)) []) (Enter (word_at ws e.place))) ≡ Some e.number
-  pub layer : e.layer ≡ Case
+  pub reason : first (refusals M (world (holding b (take e.place ws)) []) (Enter (word_at ws e.place))) ≡ Some e.reason
+  pub layer : layer_of e.reason ≡ Case
 
 -- P has the states where the formula holds.
 abbrev pub SetOf : Meaning → Formula → States → Type 0
@@ -64,5 +65,5 @@ pub record Leads (M : Meaning) (m m' : Model) : Type 0 where
 -- The lines of all goals, or the refusal of the first word that cannot be entered. Nothing is said where memory is wanting.
 abbrev pub Judges : Meaning → Rows → List Word → Result (Vec Line Global) Stop → Type 0
 Judges M b ws (Ok v) = Judged M b ws (vec_items v)
-Judges M b ws (Err (Refusal e)) = RefusedWord M b ws e
+Judges M b ws (Err (Refused e)) = RefusedWord M b ws e
 Judges M b ws (Err Memory) = Unit {0}

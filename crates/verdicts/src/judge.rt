@@ -2,27 +2,18 @@
 ghost use Rattle.std.specs.Prelude.{◌≡◌, ℕ, ◌<◌, ◌≤◌, false, [], length, MatchResult};
 ghost use Rattle.law.specs.Refusals.{no_board};
 ghost use Rattle.cases.specs.Shows.{model};
-ghost use Rattle.cases.specs.declared.stop.Stop.TheVariants.{Memory};
+ghost use Rattle.game.specs.declared.fault.Stop.TheVariants.{Memory};
 ghost use Rattle.verdicts.specs.Reports.{IsLine};
 ghost use Rattle.verdicts.specs.Judging.{word_at, line_at, holding, Entered, RefusedWord, Leads, Judges};
 
 use crate::line::Line;
 use crate::report::report;
 use boards::Board;
-use cases::calls::Unopened;
 use cases::case::Case;
-use cases::stop::Stop;
-use game::fault::Fault;
+use game::fault::{Fault, Stop};
 use game::goal::Word;
 use game::system::System;
 use std::alloc::Global;
-
-fn word_in(words: &[Word], i: usize) -> Word
-    requires { i < length words.now }
-    ensures { result ≡ word_at words.now i }
-{
-    words[i]
-}
 
 // Enters the goals of the words, in their order. A refusal has the place of its word among them.
 fn enter_all<S: System, B: Board>(case: &mut Case<S, B>, words: &[Word]) -> Result<(), Fault>
@@ -34,11 +25,10 @@ fn enter_all<S: System, B: Board>(case: &mut Case<S, B>, words: &[Word]) -> Resu
     ensures same { case.new.system ≡ case.old.system }
     ensures out { case.new.out ≡ 0 }
 {
-    for i in 0..words.len() {
-        let word = word_in(words, i);
-        match case.enter(word) {
-            Ok(_) => {}
-            Err(fault) => return Err(Fault { place: i, ..fault }),
+    for (place, word) in words.iter().enumerate() {
+        match case.enter(*word) {
+            Ok(_) => (),
+            Err(fault) => return Err(Fault { place, ..fault }),
         }
     }
     Ok(())
@@ -111,14 +101,6 @@ pub fn judge<S: System + Drop, B: Board + Drop>(
 ) -> Result<Vec<Line>, Stop>
     ensures { Judges (S.System.means system) (B.Board.shows board) words.now result }
 {
-    let mut case = match Case::open(heap, system, board) {
-        Ok(case) => case,
-        Err(
-            Unopened {
-                system: _,
-                board: _,
-            },
-        ) => return Err(Stop::Memory),
-    };
+    let mut case = Case::open(heap, system, board)?;
     judge_on(heap, &mut case, words)
 }

@@ -4,5 +4,4 @@
 pub mod file;
 pub mod judge;
 pub mod line;
-pub mod refusal;
 pub mod report;

@@ -1,5 +1,5 @@
 // The line of a goal of a case.
-ghost use Rattle.std.specs.Prelude.{◌≡◌, not, ◌&&◌, ◌||◌};
+ghost use Rattle.std.specs.Prelude.{◌≡◌};
 ghost use Rattle.cases.specs.Shows.{model};
 ghost use Rattle.verdicts.specs.Reports.{Reports};
 
@@ -8,13 +8,6 @@ use boards::Board;
 use cases::case::Case;
 use game::fault::Fault;
 use game::system::System;
-
-// All so far are, and so is this one, if it is asked for.
-fn still(all: bool, asked: bool, is: bool) -> bool
-    ensures { result ≡ all && (not asked || is) }
-{
-    all && (!asked || is)
-}
 
 // The line of a settled goal: how many states it is granted at, and whether at all starts.
 pub fn report<S: System, B: Board>(case: &Case<S, B>, goal: usize) -> Result<Line, Fault>
@@ -25,8 +18,9 @@ pub fn report<S: System, B: Board>(case: &Case<S, B>, goal: usize) -> Result<Lin
     let mut all = true;
     for state in 0..states {
         let here = case.query(goal, state)?;
-        granted += here as usize;
-        all = still(all, case.system().start(state), here);
+        granted += usize::from(here);
+        let start = case.system().start(state);
+        all &= !start | here;
     }
     Ok(Line {
         goal,

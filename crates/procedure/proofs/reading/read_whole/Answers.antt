@@ -1,13 +1,11 @@
-use Rattle.std.proofs.Common.{Err, sym, ◌∙◌, subst}
+use Rattle.std.proofs.Common.{sym, ◌∙◌}
 use Rattle.std.proofs.lemmas.Result.{err_from_is_err_and}
 use Rattle.procedure.specs.Faults.{misfits}
-use Rattle.procedure.specs.Reading.{Reads}
 use Rattle.procedure.proofs.Going.{reads_refused}
 use Rattle.procedure.proofs.reading.read_whole.Goals as goal
 
 pub returns-then-misfits : goal.returns-then-misfits
-returns-then-misfits c =
-    subst (λ e. Reads c.args.bytes.now (Err e)) (sym c.fault.ensures) (misfits (sym c.misfits.ensures ∙ c.if-misfits.true))
+returns-then-misfits c = misfits (sym c.misfits.ensures ∙ c.if-misfits.true)
 
 pub returns-in_err-reader : goal.returns-in_err-reader
 returns-in_err-reader c =

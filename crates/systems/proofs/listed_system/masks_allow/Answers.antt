@@ -1,18 +1,17 @@
-use Rattle.std.proofs.Common.{ℕ, ◌+◌, Bool, get_or, sym, ap, ◌∙◌, add-one}
-use Rattle.std.proofs.lemmas.Bool.{and_from}
+use Rattle.std.proofs.Common.{rules, ◌≡◌, ℕ, length, ◌∙◌, arith}
+use borrow.Author.Tests.{tests}
+use Rattle.std.specs.List.{list_all, zip}
+use Rattle.std.proofs.lemmas.Iterator.{YieldsList-from_slice, YieldsList-from_zip}
+use Rattle.std.proofs.lemmas.Iterator.Search.{all_from_yields_List}
 use Rattle.systems.specs.Fits.{bit}
-use Rattle.systems.specs.Joint.{all_below}
-use Rattle.systems.specs.lemmas.Joints.{all_below_not}
+use Rattle.systems.specs.lemmas.Joints.{zip_all}
 use Rattle.systems.proofs.listed_system.masks_allow.Goals as goal
 
-pub returns-then-not-in_mask : goal.returns-then-not-in_mask
-returns-then-not-in_mask c =
-    let a = c.args in
-    sym (all_below_not a.agents (λ k. bit (get_or a.masks.now (a.place + k) 0) (get_or a.actions k 0)) c.loop-i.i c.loop-i-test.true (sym c.if-not-in_mask.ensures))
-
-pub loop-i-preserved : goal.loop-i-preserved
-loop-i-preserved c =
-    let a = c.args in
-    let i = c.loop-i.i in
-    let test : ℕ → Bool = λ k. bit (get_or a.masks.now (a.place + k) 0) (get_or a.actions k 0) in
-    ap (λ k. all_below k test) (add-one i) ∙ and_from (all_below i test) (test i) c.loop-i.invariant (sym c.if-not-in_mask.ensures)
+pub returns : goal.returns
+returns c =
+    let masks = c.args.masks.now in
+    let acts = c.args.actions in
+    let zipped : c.all.result ≡ list_all (λ (p : ℕ × ℕ). bit p.0 p.1) (zip masks acts) =
+    all_from_yields_List (λ (p : ℕ × ℕ). bit p.0 p.1) c.all.new.self _ _ c.all.ensures.ran (YieldsList-from_zip (YieldsList-from_slice masks cc) (YieldsList-from_slice acts cc)) (λ x b q k. search (rules, tests)) in
+    let long : length acts ≡ 6 = search rules in
+    zipped ∙ zip_all bit masks acts 0 0 (omega (arith, c.requires))

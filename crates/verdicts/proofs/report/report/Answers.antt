@@ -20,8 +20,8 @@ overflow_add-granted g c =
 
 pub loop-state-preserved : goal.loop-state-preserved
 loop-state-preserved g c =
-    asked_more _ _ _ _ _ _ _ c.loop-state.invariant c.in_ok-here.here c.in_ok-here.ensures.steps _ (byte_is c.in_ok-here.here) _
-    (c.still-all.ensures ∙ ap (λ b. c.loop-state.all && (not b || c.in_ok-here.here)) (c.start.ensures ∙ ap (λ y. (g.S.System.means y).start c.loop-state.state) c.system-in-loop-state.ensures))
+    asked_more _ _ _ _ _ _ _ c.loop-state.invariant c.in_ok-here.here c.in_ok-here.ensures.steps _ (c.from-granted.ensures ∙ byte_is c.in_ok-here.here) _
+    (ap (λ b. c.loop-state.all && (not b || c.in_ok-here.here)) (c.start-start.ensures ∙ ap (λ y. (g.S.System.means y).start c.loop-state.state) c.system-in-loop-state.ensures))
 
 pub returns-in_err-here : goal.returns-in_err-here
 returns-in_err-here g c =

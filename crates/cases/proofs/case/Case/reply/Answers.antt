@@ -35,9 +35,10 @@ returns g c qs e =
     let out : granted_in es s ≡ false = ap (λ (x : Entry). x.granted) (sym entry) ∙ c.if-entry.false in
     let φ = goal_in (vec_items me.goals) sheet.goal in
     let aimed : aim m ≡ φ = ap (planned_goal m) plan in
-    let group : c.group_of.result ≡ group_of φ = c.group_of.ensures ∙ ap group_of c.goal_at-goal.ensures in
+    let goal : c.goal_at-goal.result ≡ φ = c.goal_at-goal.ensures ∙ ap (λ l. goal_in l sheet.goal) c.deref.ensures.value in
+    let group : c.group_of.result ≡ group_of φ = c.group_of.ensures ∙ ap group_of goal in
     let fits : fits_side M (member (group_of φ)) s a ≡ true = ap (λ x. fits_side M (member x) s a) (sym group) ∙ sym c.is_choice.ensures ∙ c.if-not-is_choice.false in
-    let replies = subst₂ (λ ψ l. RepliesAs M R ψ l s a c.lowest.result) c.goal_at-goal.ensures slice c.lowest.ensures in
+    let replies = subst₂ (λ ψ l. RepliesAs M R ψ l s a c.lowest.result) goal slice c.lowest.ensures in
     let owed : IsPlan M m p → IsReply M m p s a c.lowest.result = λ h.
     let ga : GroupChoice M h.group s a = subst (λ x. GroupChoice M x s a) (aims_group R φ h.group h.objective h.aims) ((sides_are_parts M (member (group_of φ)) s a).0 fits) in
     record { group = h.group; objective = h.objective; aims = h.aims; sheet = (h.sheet.0, h.sheet.1, replies h.group h.objective h.aims h.sheet.0 h.sheet.1 hs out ga) } in

@@ -17,7 +17,7 @@ returns-then-not-is_reply g c qs i start told at =
     let t = c.args.play in
     let known : t.state < M.states = omega (arith, c.if-play-states.false, c.states.ensures) in (
       tell_refused M (model g.B.Board.shows me) qs i c.args.reply start told t at (sym c.is_unfit.ensures ∙ c.if-is_unfit.false) (sheeted me.sheet (c.is_none.ensures ∙ ap not c.if-is_none.false)) known
-          (ap (λ x. fits_side M (λ k. not (member x k)) t.state c.args.reply) (sym c.group.ensures) ∙ sym c.is_reply.ensures ∙ c.if-not-is_reply.true) _ c.refusal-then-not-is_reply.ensures,
+          (ap (λ x. fits_side M (λ k. not (member x k)) t.state c.args.reply) (sym c.group.ensures) ∙ sym c.is_reply.ensures ∙ c.if-not-is_reply.true) _ c.from-then-not-is_reply.ensures,
       refl,
       refl,
       refl,

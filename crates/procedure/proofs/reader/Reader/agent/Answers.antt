@@ -1,4 +1,4 @@
-use Rattle.std.proofs.Common.{◌≡◌, ◌+◌, ◌*◌, ◌<◌, [], ◌∷◌, ◌++◌, map, length, vec_items, vec_len, sym, ap, ◌∙◌, arith, rules}
+use Rattle.std.proofs.Common.{None, ◌≡◌, ◌+◌, ◌*◌, ◌<◌, [], ◌∷◌, ◌++◌, map, length, vec_items, vec_len, sym, ap, ◌∙◌, arith, rules}
 use lib.ListN.{length-map}
 use Rattle.procedure.specs.Texts.{agent_text}
 use Rattle.procedure.specs.Parts.{product, judged, agent_fits, crowded, heads}
@@ -13,7 +13,7 @@ returns c =
     let x = c.args.word in
     let b = c.requires.between in
     let more = c.in_ok-push.ensures.items in
-    let right : judged (x.a + x.d) (agent_fits (vec_len r.sizes) x) (crowded r.states x) ≡ 0 = search rules in
+    let right : judged (x.a + x.d) (agent_fits (vec_len r.sizes) x) (crowded r.states x) ≡ None = search rules in
     let one : 0 < x.c = search rules in
     let empty : vec_len r.masks ≡ 0 = r.masks.ok.0 ∙ ap length b.idle.masks in
     let none : vec_len r.masks < x.c = omega arith in

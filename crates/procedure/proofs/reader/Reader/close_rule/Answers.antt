@@ -1,7 +1,7 @@
 use Rattle.std.proofs.Common.{◌≡◌, true, ltb, List, [], ◌∷◌, ◌++◌, map, length, vec_items, vec_len, Vec, sym, refl, ap, ◌∙◌, subst, append_assoc}
 use Rattle.std.proofs.lemmas.List.{map-append}
 use Rattle.std.proofs.lemmas.Bool.{lt-ltb}
-use Rattle.systems.specs.First.{all_of}
+use Rattle.std.specs.List.{list_all}
 use Rattle.std.specs.declared.alloc.Global.{Global}
 use Rattle.systems.specs.declared.line.Condition.{Condition}
 use Rattle.systems.specs.declared.line.Rule.{Rule}
@@ -20,7 +20,7 @@ returns c =
     let x : Rule = record { conditions = c.replace-conditions.result; next = r.line } in
     let more = c.in_ok-push.ensures.items in
     let line = rule_word (vec_len r.tests) r.line ∷ map condition_word (vec_items r.tests) in
-    let P : List Rule → Type 0 = λ rs. all_of (λ q. ltb q.next r.locals) rs ≡ true in
+    let P : List Rule → Type 0 = λ rs. list_all (λ q. ltb q.next r.locals) rs ≡ true in
     record {
       at = refl;
       ready = (

@@ -1,5 +1,5 @@
-use Rattle.std.proofs.Common.{◌≡◌, ℕ, ◌+◌, ◌<◌, true, ◌&&◌, ltb, List, ◌∷◌, ◌++◌, map, length, vec_items, vec_len, sym, ap, ◌∙◌, subst, append-nil, arith, rules}
-use Rattle.systems.specs.First.{all_of}
+use Rattle.std.proofs.Common.{None, ◌≡◌, ℕ, ◌+◌, ◌<◌, true, ◌&&◌, ltb, List, ◌∷◌, ◌++◌, map, length, vec_items, vec_len, sym, ap, ◌∙◌, subst, append-nil, arith, rules}
+use Rattle.std.specs.List.{list_all}
 use Rattle.procedure.specs.Texts.{agent_text, agent_word, protocol_words, rule_text, rules_words}
 use Rattle.procedure.specs.Parts.{judged, protocol_fits, heads}
 use Rattle.procedure.specs.Reader.{part}
@@ -18,8 +18,8 @@ returns-then-len-self c =
     let ms' = vec_items c.push.new.self in
     let more = c.in_ok-push.ensures.items in
     let g = agent_word (length (map agent_text (vec_items r.agents))) r.locals in
-    let P : List ℕ → Type 0 = λ ms. all_of (λ m. ltb 0 m && ltb m 16) ms ≡ true in
-    let right : judged (x.a + x.b) (protocol_fits (vec_len r.masks) x) 0 ≡ 0 = search rules in
+    let P : List ℕ → Type 0 = λ ms. list_all (λ m. ltb 0 m && ltb m 16) ms ≡ true in
+    let right : judged (x.a + x.b) (protocol_fits (vec_len r.masks) x) None ≡ None = search rules in
     record {
       right = right;
       says = ap (λ v. (heads (part r) ++ (g ∷ protocol_words 0 ms')) ++ rules_words (map rule_text v)) c.requires.ready.2
@@ -53,8 +53,8 @@ returns-else-len-self c =
     let ms' = vec_items c.push.new.self in
     let more = c.in_ok-push.ensures.items in
     let g = agent_word (length (map agent_text (vec_items r.agents))) r.locals in
-    let P : List ℕ → Type 0 = λ ms. all_of (λ m. ltb 0 m && ltb m 16) ms ≡ true in
-    let right : judged (x.a + x.b) (protocol_fits (vec_len r.masks) x) 0 ≡ 0 = search rules in
+    let P : List ℕ → Type 0 = λ ms. list_all (λ m. ltb 0 m && ltb m 16) ms ≡ true in
+    let right : judged (x.a + x.b) (protocol_fits (vec_len r.masks) x) None ≡ None = search rules in
     let fewer : vec_len c.push.new.self < r.locals =
     omega (arith, c.in_ok-push.ensures.len, c.len-2.ensures, c.if-len-self.false, c.requires.ready.1) in
     taken_at stage.Protocols _ _ _ _ c.requires.at (record {

@@ -1,7 +1,0 @@
-use Rattle.std.proofs.Common.{◌≡◌, ◌+◌, true, get_or}
-use Rattle.systems.specs.Fits.{bit}
-use Rattle.systems.specs.Joint.{all_below}
-use Rattle.systems.proofs.listed_system.masks_allow.Given as goal
-
-abbrev pub invariant-loop-i : goal.invariant-loop-i
-invariant-loop-i l = all_below l.i (λ k. bit (get_or l.masks (l.place + k) 0) (get_or l.actions k 0)) ≡ true
