@@ -1,12 +1,14 @@
-// Calls of a case, and what they say.
+// Calls of a case, and what they answer.
 use boards::Board;
 use cases::advice::Advice;
 use cases::case::Case;
-use game::fault::{Fault, Stop};
+use game::fault::Stop;
 use game::goal::Word;
 use game::system::System;
+use law::call::Answer;
 use std::alloc::{AllocError, Global};
 
+// The calls that are compared. With the type of all calls, each match on one would have arms for plays that nothing here reaches.
 #[derive(Clone, Copy, Debug)]
 pub enum Ask {
     Enter(Word),
@@ -17,35 +19,28 @@ pub enum Ask {
     Reply(usize, usize),
 }
 
-#[derive(Clone, Copy, PartialEq, Eq, Debug)]
-pub enum Said {
-    Number(usize),
-    Done,
-    Told(bool),
-    Entry(usize, usize),
-    Refused(Fault),
+fn entry(advice: Advice) -> Answer {
+    Answer::Entry(advice.rank, advice.choice)
 }
 
-impl From<Advice> for Said {
-    fn from(advice: Advice) -> Said {
-        Said::Entry(advice.rank, advice.choice)
-    }
-}
-
-fn call<S: System, B: Board>(heap: Global, case: &mut Case<S, B>, ask: Ask) -> Result<Said, Stop> {
+fn call<S: System, B: Board>(
+    heap: Global,
+    case: &mut Case<S, B>,
+    ask: Ask,
+) -> Result<Answer, Stop> {
     match ask {
-        Ask::Enter(word) => Ok(Said::Number(case.enter(word)?)),
+        Ask::Enter(word) => Ok(Answer::Number(case.enter(word)?)),
         Ask::Settle => {
             case.settle(heap)?;
-            Ok(Said::Done)
+            Ok(Answer::Done)
         }
-        Ask::Query(goal, state) => Ok(Said::Told(case.query(goal, state)?)),
+        Ask::Query(goal, state) => Ok(Answer::Told(case.query(goal, state)?)),
         Ask::Plan(goal) => {
             case.plan(heap, goal)?;
-            Ok(Said::Done)
+            Ok(Answer::Done)
         }
-        Ask::Move(state) => Ok(case.move_at(state)?.into()),
-        Ask::Reply(state, choice) => Ok(case.reply(state, choice)?.into()),
+        Ask::Move(state) => Ok(entry(case.move_at(state)?)),
+        Ask::Reply(state, choice) => Ok(entry(case.reply(state, choice)?)),
     }
 }
 
@@ -54,10 +49,10 @@ pub(crate) fn hear<S: System, B: Board>(
     heap: Global,
     case: &mut Case<S, B>,
     ask: Ask,
-) -> Result<Said, AllocError> {
+) -> Result<Answer, AllocError> {
     match call(heap, case, ask) {
         Ok(said) => Ok(said),
-        Err(Stop::Refused(fault)) => Ok(Said::Refused(fault)),
+        Err(Stop::Refused(fault)) => Ok(Answer::Refused(fault)),
         Err(Stop::Memory) => Err(AllocError),
     }
 }

@@ -1,6 +1,6 @@
 // Sessions on listed games and on agents' systems, over both boards.
 use crate::hiring::Limits;
-use crate::places::Used;
+use crate::places::{Used, used_board};
 use crate::random::Random;
 use crate::second::Second;
 use crate::session::Session;
@@ -41,7 +41,7 @@ impl Run<'_> {
         session: &Session,
     ) -> io::Result<()> {
         let rt = self.rt;
-        let board = B::used(random, session.second.width, session.second.rows)?;
+        let board = used_board::<B>(random, session.second.width, session.second.rows)?;
         if let Some(place) = source.replay(random.heap, board, session)? {
             self.tally
                 .differences

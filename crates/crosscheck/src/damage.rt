@@ -48,7 +48,7 @@ impl Listing {
         if let Some(place) = self.bad_entry() {
             return Err(Fault {
                 reason: Reason::Entry,
-                place: place,
+                place,
             });
         }
         if self.starts.iter().all(|start| *start == 0) {

@@ -52,9 +52,7 @@ fn put_line(words: &mut Vec<Word>, kind: Kind, line: &Guarded) -> Result<(), All
         c: 0,
         d: line.result,
     })?;
-    for test in &line.tests {
-        words.push(Word::from(*test))?;
-    }
+    words.extend(line.tests.iter().map(|test| Word::from(*test)))?;
     Ok(())
 }
 
@@ -94,9 +92,11 @@ pub(crate) fn words_of(heap: Global, crew: &Crew, goals: &[Word]) -> Result<Vec<
     for (number, member) in crew.members.iter().enumerate() {
         put_member(&mut words, number, member)?;
     }
-    for start in &crew.starts {
-        words.push(number_word(Kind::Start, *start))?;
-    }
+    words.extend(
+        crew.starts
+            .iter()
+            .map(|start| number_word(Kind::Start, *start)),
+    )?;
     for label in &crew.labels {
         put_line(&mut words, Kind::Label, label)?;
     }

@@ -138,17 +138,17 @@ impl Random {
     }
 
     fn starts(&mut self, states: usize) -> Result<Vec<u8>, AllocError> {
-        let mut starts = Vec::new(self.heap);
+        let heap = self.heap;
         let sure = self.below(states);
-        for state in 0..states {
-            let start = if state == sure || self.once_in(3) {
-                self.byte(255) + 1
-            } else {
-                0
-            };
-            starts.push(start)?;
-        }
-        Ok(starts)
+        (0..states)
+            .map(|state| {
+                if state == sure || self.once_in(3) {
+                    self.byte(255) + 1
+                } else {
+                    0
+                }
+            })
+            .collect(heap)
     }
 
     // A listed game that the check accepts.

@@ -1,11 +1,12 @@
 // A second case, over the plain reading: what each call should say.
-use crate::ask::{Ask, Said};
+use crate::ask::Ask;
 use crate::goal_word::{goal_of, is_known, operands};
 use crate::plain::Plain;
 use crate::settled::Settled;
 use crate::sheet::Sheet;
 use game::fault::{Fault, Reason, Stop};
 use game::goal::{Goal, Word};
+use law::call::Answer;
 use std::alloc::{AllocError, Global};
 
 // The board has so many rows, of so many states.
@@ -91,7 +92,7 @@ impl Second {
     fn enter(&mut self, word: Word) -> Result<usize, Stop> {
         let goal = self.entering(word)?;
         let number = self.goals.len();
-        self.goals.push(goal).map_err(AllocError::from)?;
+        self.goals.push(goal)?;
         Ok(number)
     }
 
@@ -120,7 +121,7 @@ impl Second {
     }
 
     // The rank at a granted state, and the move.
-    fn advise(&self, state: usize) -> Result<Option<Said>, Stop> {
+    fn advise(&self, state: usize) -> Result<Option<Answer>, Stop> {
         self.check_board()?;
         let sheet = self.sheet()?;
         self.check_state(state)?;
@@ -131,12 +132,12 @@ impl Second {
             sheet
                 .rank(state)
                 .zip(sheet.advance(state))
-                .map(|(rank, choice)| Said::Entry(rank, choice)),
+                .map(|(rank, choice)| Answer::Entry(rank, choice)),
         )
     }
 
     // The rank at a denied state, and the reply to an allowed choice of the group.
-    fn reply(&self, state: usize, choice: usize) -> Result<Option<Said>, Stop> {
+    fn reply(&self, state: usize, choice: usize) -> Result<Option<Answer>, Stop> {
         self.check_board()?;
         let sheet = self.sheet()?;
         self.check_state(state)?;
@@ -150,7 +151,7 @@ impl Second {
             sheet
                 .rank(state)
                 .zip(sheet.reply(state, turn))
-                .map(|(rank, reply)| Said::Entry(rank, reply)),
+                .map(|(rank, reply)| Answer::Entry(rank, reply)),
         )
     }
 
@@ -159,17 +160,17 @@ impl Second {
         self.sheet.as_ref().is_some_and(|sheet| sheet.grants(state))
     }
 
-    fn call(&mut self, ask: Ask) -> Result<Option<Said>, Stop> {
+    fn call(&mut self, ask: Ask) -> Result<Option<Answer>, Stop> {
         match ask {
-            Ask::Enter(word) => Ok(Some(Said::Number(self.enter(word)?))),
+            Ask::Enter(word) => Ok(Some(Answer::Number(self.enter(word)?))),
             Ask::Settle => {
                 self.settle()?;
-                Ok(Some(Said::Done))
+                Ok(Some(Answer::Done))
             }
-            Ask::Query(goal, state) => Ok(Some(Said::Told(self.query(goal, state)?))),
+            Ask::Query(goal, state) => Ok(Some(Answer::Told(self.query(goal, state)?))),
             Ask::Plan(goal) => {
                 self.plan(goal)?;
-                Ok(Some(Said::Done))
+                Ok(Some(Answer::Done))
             }
             Ask::Move(state) => self.advise(state),
             Ask::Reply(state, choice) => self.reply(state, choice),
@@ -177,10 +178,10 @@ impl Second {
     }
 
     // What a call should say. Nothing is right where the sheet has no entry, and it has one at every state.
-    pub(crate) fn say(&mut self, ask: Ask) -> Result<Option<Said>, AllocError> {
+    pub(crate) fn say(&mut self, ask: Ask) -> Result<Option<Answer>, AllocError> {
         match self.call(ask) {
             Ok(said) => Ok(said),
-            Err(Stop::Refused(fault)) => Ok(Some(Said::Refused(fault))),
+            Err(Stop::Refused(fault)) => Ok(Some(Answer::Refused(fault))),
             Err(Stop::Memory) => Err(AllocError),
         }
     }

@@ -106,7 +106,7 @@ impl<'a> Cursor<'a> {
         let place = self.place();
         self.next_of(kind).ok_or(Stop::Refused(Fault {
             reason: Reason::Kind,
-            place: place,
+            place,
         }))
     }
 

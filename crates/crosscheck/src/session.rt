@@ -1,5 +1,5 @@
 // Lists of calls, with what each should say.
-use crate::ask::{Ask, Said, hear};
+use crate::ask::{Ask, hear};
 use crate::goal_word::is_strategic;
 use crate::plain::choices_of;
 use crate::random::Random;
@@ -7,13 +7,14 @@ use crate::second::Second;
 use boards::Board;
 use cases::case::Case;
 use game::system::System;
+use law::call::Answer;
 use std::alloc::{AllocError, Global};
 
 // A call, and what it should say.
 #[derive(Clone, Copy, Debug)]
 pub struct Step {
     pub ask: Ask,
-    pub said: Option<Said>,
+    pub said: Option<Answer>,
 }
 
 // The calls that a second case was asked.

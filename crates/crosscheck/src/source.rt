@@ -47,6 +47,7 @@ impl Source for Listing {
 }
 
 impl Source for Crew {
+    // A file that is not read has no sizes.
     fn first_otherwise(
         &self,
         plain: &Plain,

@@ -1,7 +1,8 @@
 // What sessions showed, and how much of it said something.
-use crate::ask::{Ask, Said};
+use crate::ask::Ask;
 use crate::counts::{Counts, Differences};
 use crate::session::{Session, Step};
+use law::call::Answer;
 use std::alloc::{AllocError, Global};
 use std::fmt;
 use std::num::Wrapping;
@@ -74,12 +75,12 @@ impl Tally {
     fn add_step(&mut self, step: Step) -> Result<(), AllocError> {
         self.calls += 1;
         match (step.ask, step.said) {
-            (_, Some(Said::Refused(fault))) => self.refusals.add(u8::from(fault.reason))?,
-            (Ask::Enter(word), Some(Said::Number(_))) => self.goals.add(usize::from(word.a))?,
-            (Ask::Query(..), Some(Said::Told(true))) => self.granted += 1,
-            (Ask::Query(..), Some(Said::Told(false))) => self.denied += 1,
-            (Ask::Move(_), Some(Said::Entry(rank, _))) => self.moves.add(rank),
-            (Ask::Reply(..), Some(Said::Entry(rank, _))) => self.replies.add(rank),
+            (_, Some(Answer::Refused(fault))) => self.refusals.add(u8::from(fault.reason))?,
+            (Ask::Enter(word), Some(Answer::Number(_))) => self.goals.add(usize::from(word.a))?,
+            (Ask::Query(..), Some(Answer::Told(true))) => self.granted += 1,
+            (Ask::Query(..), Some(Answer::Told(false))) => self.denied += 1,
+            (Ask::Move(_), Some(Answer::Entry(rank, _))) => self.moves.add(rank),
+            (Ask::Reply(..), Some(Answer::Entry(rank, _))) => self.replies.add(rank),
             _ => {}
         }
         Ok(())

@@ -6,7 +6,7 @@ mod tests {
     use game::fault::Stop;
     use game::system::System;
     use procedure::reading::read_whole;
-    use std::alloc::Global;
+    use std::alloc::{AllocError, Global};
     use std::fmt::Write;
     use std::process::Abort;
     use std::test::Fail;
@@ -20,14 +20,11 @@ mod tests {
         0x8A030200, 0x85020100, 0x90000017,
     ];
 
-    fn bytes_of(heap: Global, words: &[u32]) -> Result<Vec<u8>, Fail> {
-        let mut bytes = Vec::new(heap);
-        for word in words {
-            for byte in word.to_le_bytes() {
-                bytes.push(byte)?;
-            }
-        }
-        Ok(bytes)
+    fn bytes_of(heap: Global, words: &[u32]) -> Result<Vec<u8>, AllocError> {
+        words
+            .iter()
+            .flat_map(|word| word.to_le_bytes())
+            .collect(heap)
     }
 
     // What the program prints of a file.
@@ -35,7 +32,7 @@ mod tests {
         let mut text = String::new(heap);
         match judge_file(heap, file) {
             Ok(lines) => {
-                for line in lines.iter() {
+                for line in &lines {
                     writeln!(text, "{line}")?;
                 }
             }
@@ -49,7 +46,7 @@ mod tests {
 
     fn prints(rt: &impl Abort, heap: Global, words: &[u32], expected: &str) -> Result<(), Fail> {
         let file = bytes_of(heap, words)?;
-        let text = printed(heap, file.as_slice())?;
+        let text = printed(heap, &file)?;
         assert_eq!(rt; text.as_str(), expected);
         Ok(())
     }
@@ -68,13 +65,11 @@ mod tests {
     fn crowd(heap: Global, locals: [u32; 3]) -> Result<Vec<u32>, Fail> {
         let mut words = Vec::new(heap);
         words.push(0x10030001)?;
-        let mut agent = 0u32;
-        for many in locals {
+        for (agent, many) in (0..3u32).zip(locals) {
             words.push(0x20000000 | (agent << 16) | (many << 8))?;
             for local in 0..many {
                 words.push(0x30000001 | (local << 8))?;
             }
-            agent = agent.wrapping_add(1);
         }
         words.push(0x60000000)?;
         words.push(0x80000000)?;
@@ -87,11 +82,11 @@ mod tests {
     fn a_thousand_states(rt: HostRuntime) -> Result<(), Fail> {
         let heap = rt.alloc();
         let fits = crowd(heap, [16, 16, 4])?;
-        prints(&rt, heap, fits.as_slice(), "0 1024/1024 yes\n")?;
+        prints(&rt, heap, &fits, "0 1024/1024 yes\n")?;
         let passes = crowd(heap, [16, 16, 5])?;
-        prints(&rt, heap, passes.as_slice(), "refused 6 S 35\n")?;
+        prints(&rt, heap, &passes, "refused 6 S 35\n")?;
         let wide = crowd(heap, [16, 16, 17])?;
-        prints(&rt, heap, wide.as_slice(), "refused 4 R 35\n")
+        prints(&rt, heap, &wide, "refused 4 R 35\n")
     }
 
     #[test]
@@ -100,11 +95,11 @@ mod tests {
         prints(&rt, heap, &[], "refused 1 W 0\n")?;
         for k in 1..24usize {
             let expected = format!(in heap; "refused 2 W {k}\n")?;
-            prints(&rt, heap, &VAN[0..k], expected.as_str())?;
+            prints(&rt, heap, &VAN[0..k], &expected)?;
         }
         let mut file = bytes_of(heap, &VAN)?;
         file.truncate(95);
-        let text = printed(heap, file.as_slice())?;
+        let text = printed(heap, &file)?;
         assert_eq!(rt; text.as_str(), "refused 1 W 23\n");
         Ok(())
     }
@@ -115,15 +110,15 @@ mod tests {
         assert!(rt; place < 24);
         words[place] = word;
         let file = bytes_of(heap, &words)?;
-        printed(heap, file.as_slice())
+        printed(heap, &file)
     }
 
     // The van's file with the word at the place changed is refused so.
     fn refused(rt: &impl Abort, heap: Global, table: &[(usize, u32, &str)]) -> Result<(), Fail> {
-        for (place, word, refusal) in table.iter() {
-            let text = changed(rt, heap, *place, *word)?;
+        for &(place, word, refusal) in table {
+            let text = changed(rt, heap, place, word)?;
             let expected = format!(in heap; "refused {refusal}\n")?;
-            assert_eq!(rt; text.as_str(), expected.as_str());
+            assert_eq!(rt; text, expected);
         }
         Ok(())
     }
@@ -282,14 +277,12 @@ mod tests {
     fn the_van_moves(rt: HostRuntime) -> Result<(), Fail> {
         let heap = rt.alloc();
         let file = bytes_of(heap, &VAN)?;
-        match read_whole(heap, file.as_slice()) {
-            Ok(procedure) => {
-                assert_eq!(rt; procedure.system.next(0, 5), 1);
-                assert_eq!(rt; procedure.system.next(1, 4), 3);
-                Ok(())
-            }
-            Err(_) => Err(Fail::new("the van's file is refused")),
-        }
+        let Ok(procedure) = read_whole(heap, &file) else {
+            return Err(Fail::new("the van's file is refused"));
+        };
+        assert_eq!(rt; procedure.system.next(0, 5), 1);
+        assert_eq!(rt; procedure.system.next(1, 4), 3);
+        Ok(())
     }
 
     #[test]
@@ -297,10 +290,10 @@ mod tests {
         let heap = rt.alloc();
         let mut words = VAN.to_vec(heap)?;
         words.push(0)?;
-        prints(&rt, heap, words.as_slice(), "refused 8 S 24\n")?;
+        prints(&rt, heap, &words, "refused 8 S 24\n")?;
         assert!(rt; words.len() == 25);
         words[23] = 0x85000100;
         words[24] = 0x90000018;
-        prints(&rt, heap, words.as_slice(), "refused 24 C 23\n")
+        prints(&rt, heap, &words, "refused 24 C 23\n")
     }
 }
