@@ -90,7 +90,6 @@ LINES = [
     ('1 an own enum with a variant for nothing or for want of memory', r'^\s*(?:Other|Lost|Memory|Missing|Nothing),$'),
     ('3 a loop over numbers', r'\bfor \w+ in [^{]*\.\.|\bwhile \w+ <'),
     ('3 an index counted by hand', r'^\s*\w+ \+= 1;|= \w+\.wrapping_add\(1\);'),
-    ('4 a cast by `as`', r'\bas (?:u8|u16|u32|u64|usize|i32|i64)\b'),
     ('4 a mask in place of a conversion', r'& (?:255|65535)\b'),
     ('6 a read with a value for what is past the end', r'\bat(?:32)?\(|\bbyte\(bytes'),
     ('6 an array with fewer in use', r'\[u8; 6\]|\[usize; \d+\]'),
@@ -126,6 +125,13 @@ for file, whole in files():
             by_pair[(crate, a, b)].append(place)
         if re.match(r'(?:is_)?same|narrow|byte$|letter|kind_of|stop_of|condition_of|goal_of|word_of|goal_word', f.name):
             note('4 a comparison or a conversion by hand', place)
+for file, whole in files():
+    text = bare(whole)
+    for m in re.finditer(r'\bfor (\w+) in [^{;]*\.\.[^{;]*\{|\bwhile (\w+) < [^{;]*\{', text):
+        name = m.group(1) or m.group(2)
+        body = text[m.end() - 1:closing(text, m.end() - 1)]
+        if name != '_' and re.search(r'\w\[[^\]]*\b%s\b|\.(?:get|get_mut)\(&?\*?%s\b|\bat(?:32)?\([^()]*\b%s\b|\.has\([^()]*\b%s\)' % ((name,) * 4), body):
+            note('3 a loop that reads or writes a list at its number', '%s:%d: %s' % (file, text.count('\n', 0, m.start()) + 1, m.group(0).strip()))
 for shape, places in by_shape.items():
     if len(places) > 1:
         note('2 functions of one shape', ' = '.join(places))

@@ -16,6 +16,7 @@ fn mark<B: Board>(board: &mut B, row: usize, state: usize, on: bool)
     }
 }
 
+// The states are gone through by number, as there may be fewer flags than states.
 // Makes a row the set of the flags, as far as the board has the row and the states.
 pub(crate) fn write_row<B: Board>(board: &mut B, row: usize, flags: &[bool])
     ensures { B.Board.shows board.new ≡ with_row (B.Board.shows board.old) row (set_in flags.now) }

@@ -5,7 +5,7 @@ use std::alloc::{AllocError, Global};
 use systems::line::MoveLine;
 use systems::lists::Lists;
 
-// The lists of a game, which may be of any length.
+// The lists of a game, as the check takes them: each may be of any length, so a struct for each state would not do.
 #[derive(Drop)]
 pub struct Listing {
     pub agents: usize,

@@ -54,6 +54,7 @@ impl Random {
     ) -> Result<Vec<T>, AllocError>
         requires { F.IsAlwaysCallable draw }
     {
+        // Draws one after another change what is drawn from, here and wherever something random is drawn, so these are loops.
         let mut list = Vec::new(self.heap);
         for _ in 0..count {
             list.push(draw(self))?;

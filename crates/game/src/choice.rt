@@ -1,4 +1,5 @@
-// Choices, one number for the actions of all agents.
+// Choices, one number for the actions of all agents. There are six agents at most, and their actions stand in an array, since what a
+// system answers takes nothing from memory. The six terms are written out: a fold over powers of 4 would say no more, and hide the bound.
 ghost use Rattle.std.specs.Prelude.{◌≡◌, slice_index};
 ghost use Rattle.game.specs.Meaning.{choice as sum_of, actions as actions_of, member};
 

@@ -1,4 +1,4 @@
-// The verdict on all goals of a list of words.
+// The verdict on all goals of a list of words, in three steps, each of which asks for what the one before leaves.
 ghost use Rattle.std.specs.Prelude.{◌≡◌, ℕ, ◌<◌, ◌≤◌, false, [], length, MatchResult};
 ghost use Rattle.law.specs.Refusals.{no_board};
 ghost use Rattle.cases.specs.Shows.{model};
@@ -55,7 +55,7 @@ fn settle_all<S: System, B: Board>(
     Ok(())
 }
 
-// The lines of so many goals.
+// The lines of so many goals, one after another, as each may be refused.
 fn report_all<S: System, B: Board>(
     heap: Global,
     case: &Case<S, B>,
