@@ -3,6 +3,7 @@
 
 #[cfg(test)]
 mod tests {
+    use boards::{BitBoard, Board, ChangeBoard, fresh};
     use game::fault::Stop;
     use game::system::System;
     use procedure::reading::read_whole;
@@ -282,6 +283,15 @@ mod tests {
         };
         assert_eq!(rt; procedure.system.next(0, 5), 1);
         assert_eq!(rt; procedure.system.next(1, 4), 3);
+        Ok(())
+    }
+
+    #[test]
+    fn fresh_boards(rt: HostRuntime) -> Result<(), Fail> {
+        let bits: BitBoard = fresh(rt.alloc(), 1024)?;
+        assert_eq!(rt; bits.rows(), 64);
+        let points: ChangeBoard = fresh(rt.alloc(), 1024)?;
+        assert_eq!(rt; points.rows(), 64);
         Ok(())
     }
 
