@@ -1,4 +1,4 @@
-// Goals and their words.
+// Goals and their words, read and written a second time: both types are of another crate, which has their `From`, so these are functions.
 use crate::kind::Kind;
 use crate::plain::groups_of;
 use game::goal::{Goal, Word};
