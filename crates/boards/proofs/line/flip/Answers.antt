@@ -13,11 +13,6 @@ bounds-row-above c =
     let h = searched c.args.row.now c.args.state (Err c.in-Err.above) c.in-Err.ensures.position (rises c.requires.rise) in
     omega (arith, room c.requires.rise c.in-Err.above c.args.state (omega (arith, c.requires.known)) h.1, c.requires.rise.long)
 
-pub bounds-row-above-in-Err : goal.bounds-row-above-in-Err
-bounds-row-above-in-Err c =
-    let h = searched c.args.row.now c.args.state (Err c.in-Err.above) c.in-Err.ensures.position (rises c.requires.rise) in
-    omega (arith, room c.requires.rise c.in-Err.above c.args.state (omega (arith, c.requires.known)) h.1, c.requires.rise.long)
-
 pub returns-in-Ok : goal.returns-in-Ok
 returns-in-Ok c =
     let xs = c.args.row.now in
