@@ -1,7 +1,6 @@
 // Procedure files: an agents' system and its goals, as words.
 #![tactic(auto)]
 
-mod faults;
 mod kind;
 pub mod laws;
 pub mod procedure;

@@ -11,7 +11,7 @@ ghost use Rattle.procedure.specs.declared.stage.Stage.TheVariants as stage;
 use crate::procedure::Procedure;
 use crate::reader::Reader;
 use crate::stage::Stage;
-use crate::word::Words;
+use crate::word::{Placed, Words};
 use game::fault::{Fault, Reason, Stop};
 use std::alloc::Global;
 use systems::agents::AgentsSystem;
@@ -44,7 +44,7 @@ fn read_words(heap: Global, bytes: &[u8]) -> Result<Reader, Stop>
 {
     let mut reader = fresh(heap);
     for (place, word) in Words(bytes).enumerate() {
-        reader.step(heap, place, word)?;
+        reader.step(heap, Placed { place, word })?;
     }
     match reader.stage {
         Stage::Done => Ok(reader),

@@ -6,10 +6,10 @@ ghost use Rattle.procedure.specs.Texts.{condition_word};
 ghost use Rattle.procedure.specs.declared.stage.Stage.TheVariants as stage;
 ghost use Rattle.game.specs.declared.fault.Stop.TheVariants.{Memory};
 
-use crate::faults::{ranged, unused};
 use crate::reader::Reader;
 use crate::stage::Stage;
-use game::fault::{Fault, Reason, Stop};
+use crate::word::Placed;
+use game::fault::{Reason, Stop};
 use game::goal::Word;
 use std::alloc::Global;
 use systems::agent::Agent;
@@ -38,79 +38,71 @@ fn line_fits(word: Word, limit: u8) -> bool
 // Rule lines and label lines have methods each: they differ in their conditions, what a line becomes, where that goes and the stage after
 // it, and one generic line would share the two assignments at its start and the count.
 impl Reader {
-    pub(crate) fn system(&mut self, place: usize, word: Word) -> Result<(), Stop>
+    pub(crate) fn system(&mut self, next: Placed) -> Result<(), Stop>
         requires at { self.old.stage ≡ stage.Begin }
-        requires kind { word.kind ≡ 1 }
+        requires kind { next.word.kind ≡ 1 }
         requires ready { Ready stage.Begin self.old }
-        ensures { Took [] word place (judged word.a (system_fits word) None) result self.new }
+        ensures { Took [] next.word next.place (judged next.word.a (system_fits next.word) None) result self.new }
     {
-        unused(place, word.a, 0)?;
-        ranged(
-            place,
-            word.b > 0 && word.b < 7 && word.c < 29 && word.d == 1,
-        )?;
-        self.n = word.b;
-        self.atoms = word.c;
+        next.unused(next.word.a, 0)?;
+        next.ranged(next.word.b > 0 && next.word.b < 7 && next.word.c < 29 && next.word.d == 1)?;
+        self.n = next.word.b;
+        self.atoms = next.word.c;
         self.stage = Stage::Agents;
         Ok(())
     }
 
-    pub(crate) fn agent(&mut self, place: usize, word: Word) -> Result<(), Stop>
-        requires kind { word.kind ≡ 2 }
+    pub(crate) fn agent(&mut self, next: Placed) -> Result<(), Stop>
+        requires kind { next.word.kind ≡ 2 }
         requires between { Between self.old }
         requires more { vec_len self.old.agents < self.old.n }
-        ensures { Took (heads (part self.old)) word place
-            (judged (word.a + word.d) (agent_fits (vec_len self.old.agents) word) (crowded self.old.states word)) result self.new }
+        ensures { Took (heads (part self.old)) next.word next.place
+            (judged (next.word.a + next.word.d) (agent_fits (vec_len self.old.agents) next.word) (crowded self.old.states next.word)) result self.new }
     {
-        unused(place, word.a, word.d)?;
-        ranged(
-            place,
-            usize::from(word.b) == self.agents.len() && word.c > 0 && word.c < 17,
+        next.unused(next.word.a, next.word.d)?;
+        next.ranged(
+            usize::from(next.word.b) == self.agents.len() && next.word.c > 0 && next.word.c < 17,
         )?;
-        let states = self.states as u32 * word.c as u32;
+        let states = self.states as u32 * next.word.c as u32;
         if states > 1024 {
-            return Err(Stop::Refused(Fault {
-                reason: Reason::Crowded,
-                place,
-            }));
+            return Err(Stop::Refused(next.refuse(Reason::Crowded)));
         }
         self.states = states as u16;
-        self.locals = word.c;
+        self.locals = next.word.c;
         self.stage = Stage::Protocols;
         Ok(())
     }
 
-    pub(crate) fn protocol(&mut self, place: usize, word: Word) -> Result<(), Stop>
+    pub(crate) fn protocol(&mut self, next: Placed) -> Result<(), Stop>
         requires at { self.old.stage ≡ stage.Protocols }
-        requires kind { word.kind ≡ 3 }
+        requires kind { next.word.kind ≡ 3 }
         requires ready { Ready stage.Protocols self.old }
-        ensures { Took (told stage.Protocols (part self.old)) word place
-            (judged (word.a + word.b) (protocol_fits (vec_len self.old.masks) word) None) result self.new }
+        ensures { Took (told stage.Protocols (part self.old)) next.word next.place
+            (judged (next.word.a + next.word.b) (protocol_fits (vec_len self.old.masks) next.word) None) result self.new }
     {
-        unused(place, word.a, word.b)?;
-        ranged(
-            place,
-            word.c as usize == self.masks.len() && word.d > 0 && word.d < 16,
+        next.unused(next.word.a, next.word.b)?;
+        next.ranged(
+            next.word.c as usize == self.masks.len() && next.word.d > 0 && next.word.d < 16,
         )?;
-        self.masks.push(word.d)?;
+        self.masks.push(next.word.d)?;
         if self.masks.len() == self.locals as usize {
             self.stage = Stage::Rules;
         }
         Ok(())
     }
 
-    pub(crate) fn rule(&mut self, heap: Global, place: usize, word: Word) -> Result<(), Stop>
+    pub(crate) fn rule(&mut self, heap: Global, next: Placed) -> Result<(), Stop>
         requires at { self.old.stage ≡ stage.Rules }
-        requires kind { word.kind ≡ 4 }
+        requires kind { next.word.kind ≡ 4 }
         requires ready { Ready stage.Rules self.old }
-        ensures { Took (told stage.Rules (part self.old)) word place
-            (judged (word.b + word.c) (line_fits self.old.locals word) None) result self.new }
+        ensures { Took (told stage.Rules (part self.old)) next.word next.place
+            (judged (next.word.b + next.word.c) (line_fits self.old.locals next.word) None) result self.new }
     {
-        unused(place, word.b, word.c)?;
-        ranged(place, line_fits(word, self.locals))?;
-        self.line = word.d;
-        self.left = word.a;
-        if word.a == 0 {
+        next.unused(next.word.b, next.word.c)?;
+        next.ranged(line_fits(next.word, self.locals))?;
+        self.line = next.word.d;
+        self.left = next.word.a;
+        if next.word.a == 0 {
             return self.close_rule(heap);
         }
         self.stage = Stage::RuleLine;
@@ -133,24 +125,16 @@ impl Reader {
         Ok(())
     }
 
-    pub(crate) fn rule_condition(
-        &mut self,
-        heap: Global,
-        place: usize,
-        word: Word,
-    ) -> Result<(), Stop>
+    pub(crate) fn rule_condition(&mut self, heap: Global, next: Placed) -> Result<(), Stop>
         requires at { self.old.stage ≡ stage.RuleLine }
-        requires kind { word.kind ≡ 5 }
+        requires kind { next.word.kind ≡ 5 }
         requires ready { Ready stage.RuleLine self.old }
-        ensures { Took (told stage.RuleLine (part self.old)) word place
-            (judged (word.c + unnamed word) (test_fits self.old.locals (slice_index (own_sizes self.old) 0) self.old.n word) None)
+        ensures { Took (told stage.RuleLine (part self.old)) next.word next.place
+            (judged (next.word.c + unnamed next.word) (test_fits self.old.locals (slice_index (own_sizes self.old) 0) self.old.n next.word) None)
             result self.new }
     {
-        unused(place, word.c, idle(word))?;
-        let test = self.test(word).ok_or(Fault {
-            reason: Reason::Range,
-            place,
-        })?;
+        next.unused(next.word.c, idle(next.word))?;
+        let test = self.test(next.word).ok_or(next.refuse(Reason::Range))?;
         self.tests.push(test)?;
         self.left -= 1;
         if self.left == 0 {
@@ -197,81 +181,73 @@ impl Reader {
     }
 
     // The agent word after another agent.
-    pub(crate) fn next_agent(&mut self, heap: Global, place: usize, word: Word) -> Result<(), Stop>
-        requires kind { word.kind ≡ 2 }
+    pub(crate) fn next_agent(&mut self, heap: Global, next: Placed) -> Result<(), Stop>
+        requires kind { next.word.kind ≡ 2 }
         requires ready { Ready stage.Rules self.old }
         requires more { vec_len self.old.agents + 1 < self.old.n }
-        ensures { Took (ruled (part self.old)) word place
-            (judged (word.a + word.d) (agent_fits (vec_len self.old.agents + 1) word) (crowded self.old.states word)) result self.new }
+        ensures { Took (ruled (part self.old)) next.word next.place
+            (judged (next.word.a + next.word.d) (agent_fits (vec_len self.old.agents + 1) next.word) (crowded self.old.states next.word)) result self.new }
     {
         self.finish(heap)?;
-        self.agent(place, word)
+        self.agent(next)
     }
 
     // The start word after the last agent.
-    pub(crate) fn first_start(&mut self, heap: Global, place: usize, word: Word) -> Result<(), Stop>
-        requires kind { word.kind ≡ 6 }
+    pub(crate) fn first_start(&mut self, heap: Global, next: Placed) -> Result<(), Stop>
+        requires kind { next.word.kind ≡ 6 }
         requires ready { Ready stage.Rules self.old }
         requires last { vec_len self.old.agents + 1 ≡ self.old.n }
-        ensures { Took (ruled (part self.old)) word place
-            (judged (word.a + word.b) (start_fits self.old.states word) None) result self.new }
+        ensures { Took (ruled (part self.old)) next.word next.place
+            (judged (next.word.a + next.word.b) (start_fits self.old.states next.word) None) result self.new }
     {
         self.finish(heap)?;
-        self.start(place, word)
+        self.start(next)
     }
 
-    pub(crate) fn start(&mut self, place: usize, word: Word) -> Result<(), Stop>
-        requires kind { word.kind ≡ 6 }
+    pub(crate) fn start(&mut self, next: Placed) -> Result<(), Stop>
+        requires kind { next.word.kind ≡ 6 }
         requires complete { Complete self.old }
         requires none { (self.old.labels.items ≡ []) × (self.old.goals.items ≡ []) × (self.old.wants.items ≡ []) }
-        ensures { Took (begun (part self.old)) word place
-            (judged (word.a + word.b) (start_fits self.old.states word) None) result self.new }
+        ensures { Took (begun (part self.old)) next.word next.place
+            (judged (next.word.a + next.word.b) (start_fits self.old.states next.word) None) result self.new }
     {
-        unused(place, word.a, word.b)?;
-        let state = word.c as u16 * 256 + word.d as u16;
-        ranged(place, state < self.states)?;
+        next.unused(next.word.a, next.word.b)?;
+        let state = next.word.c as u16 * 256 + next.word.d as u16;
+        next.ranged(state < self.states)?;
         self.starts.push(state)?;
         self.stage = Stage::Starts;
         Ok(())
     }
 
-    pub(crate) fn label(&mut self, heap: Global, place: usize, word: Word) -> Result<(), Stop>
-        requires kind { word.kind ≡ 7 }
+    pub(crate) fn label(&mut self, heap: Global, next: Placed) -> Result<(), Stop>
+        requires kind { next.word.kind ≡ 7 }
         requires complete { Complete self.old }
         requires begins { 0 < vec_len self.old.starts }
         requires goals { self.old.goals.items ≡ [] }
         requires none { self.old.wants.items ≡ [] }
-        ensures { Took (labelled (part self.old)) word place
-            (judged (word.b + word.c) (line_fits self.old.atoms word) None) result self.new }
+        ensures { Took (labelled (part self.old)) next.word next.place
+            (judged (next.word.b + next.word.c) (line_fits self.old.atoms next.word) None) result self.new }
     {
-        unused(place, word.b, word.c)?;
-        ranged(place, line_fits(word, self.atoms))?;
-        self.line = word.d;
-        self.left = word.a;
-        if word.a == 0 {
+        next.unused(next.word.b, next.word.c)?;
+        next.ranged(line_fits(next.word, self.atoms))?;
+        self.line = next.word.d;
+        self.left = next.word.a;
+        if next.word.a == 0 {
             return self.close_label(heap);
         }
         self.stage = Stage::LabelLine;
         Ok(())
     }
 
-    pub(crate) fn label_condition(
-        &mut self,
-        heap: Global,
-        place: usize,
-        word: Word,
-    ) -> Result<(), Stop>
+    pub(crate) fn label_condition(&mut self, heap: Global, next: Placed) -> Result<(), Stop>
         requires at { self.old.stage ≡ stage.LabelLine }
-        requires kind { word.kind ≡ 5 }
+        requires kind { next.word.kind ≡ 5 }
         requires ready { Ready stage.LabelLine self.old }
-        ensures { Took (told stage.LabelLine (part self.old)) word place
-            (judged (word.c + unnamed word) (want_fits (full_sizes self.old) word) None) result self.new }
+        ensures { Took (told stage.LabelLine (part self.old)) next.word next.place
+            (judged (next.word.c + unnamed next.word) (want_fits (full_sizes self.old) next.word) None) result self.new }
     {
-        unused(place, word.c, idle(word))?;
-        let want = self.want(word).ok_or(Fault {
-            reason: Reason::Range,
-            place,
-        })?;
+        next.unused(next.word.c, idle(next.word))?;
+        let want = self.want(next.word).ok_or(next.refuse(Reason::Range))?;
         self.wants.push(want)?;
         self.left -= 1;
         if self.left == 0 {
@@ -312,30 +288,27 @@ impl Reader {
     }
 
     // The fields of a goal word are left as they are.
-    pub(crate) fn goal(&mut self, place: usize, word: Word) -> Result<(), Stop>
-        requires kind { word.kind ≡ 8 }
+    pub(crate) fn goal(&mut self, next: Placed) -> Result<(), Stop>
+        requires kind { next.word.kind ≡ 8 }
         requires complete { Complete self.old }
         requires begins { 0 < vec_len self.old.starts }
-        ensures { Took (aimed (part self.old)) word place None result self.new }
+        ensures { Took (aimed (part self.old)) next.word next.place None result self.new }
     {
-        self.goals.push(word)?;
+        self.goals.push(next.word)?;
         self.stage = Stage::Goals;
         Ok(())
     }
 
-    pub(crate) fn end(&mut self, place: usize, word: Word) -> Result<(), Stop>
-        requires kind { word.kind ≡ 9 }
+    pub(crate) fn end(&mut self, next: Placed) -> Result<(), Stop>
+        requires kind { next.word.kind ≡ 9 }
         requires complete { Complete self.old }
         requires begins { 0 < vec_len self.old.starts }
-        requires counted { place ≡ length (aimed (part self.old)) }
-        ensures { Took (aimed (part self.old)) word place (judged (word.a + word.b) true (miscounted place word)) result self.new }
+        requires counted { next.place ≡ length (aimed (part self.old)) }
+        ensures { Took (aimed (part self.old)) next.word next.place (judged (next.word.a + next.word.b) true (miscounted next.place next.word)) result self.new }
     {
-        unused(place, word.a, word.b)?;
-        if word.c as usize * 256 + word.d as usize != place {
-            return Err(Stop::Refused(Fault {
-                reason: Reason::Count,
-                place,
-            }));
+        next.unused(next.word.a, next.word.b)?;
+        if next.word.c as usize * 256 + next.word.d as usize != next.place {
+            return Err(Stop::Refused(next.refuse(Reason::Count)));
         }
         self.stage = Stage::Done;
         Ok(())

@@ -1,8 +1,11 @@
 // The words of a file: 32 bits, the lowest byte first. The top 4 bits are the kind, then a (4 bits), b, c and d (8 bits each).
-ghost use Rattle.std.specs.Prelude.{◌≡◌, ◌+◌, ◌<◌, ◌∷◌, length, MatchOption};
+ghost use Rattle.std.specs.Prelude.{◌≡◌, ◌+◌, ◌<◌, ◌∷◌, true, false, length, MatchOption, MatchResult};
 ghost use Rattle.std.specs.Iterator.{YieldsFirst, item_count};
 ghost use Rattle.procedure.specs.Words.{words};
+ghost use Rattle.procedure.specs.Faults.{fault_at};
+ghost use Rattle.game.specs.declared.fault.Reason.TheVariants as reason;
 
+use game::fault::{Fault, Reason};
 use game::goal::Word;
 
 // The first word, and the bytes after it.
@@ -39,5 +42,44 @@ impl<'a> Iterator for Words<'a> {
         let (word, rest) = split_word(self.0)?;
         self.0 = rest;
         Some(word)
+    }
+}
+
+// A word, and its place among those of the file.
+#[derive(Clone, Copy)]
+pub(crate) struct Placed {
+    pub(crate) place: usize,
+    pub(crate) word: Word,
+}
+
+impl Placed {
+    // The refusal of the word for a reason.
+    pub(crate) fn refuse(self, reason: Reason) -> Fault
+        ensures { result ≡ fault_at self.place reason }
+    {
+        Fault {
+            reason,
+            place: self.place,
+        }
+    }
+
+    // Both unused fields are 0.
+    pub(crate) fn unused(self, one: u8, other: u8) -> Result<(), Fault>
+        ensures { MatchResult result (λ _. one + other ≡ 0) (λ e. (0 < one + other) × (e ≡ fault_at self.place reason.Unused)) }
+    {
+        if one != 0 || other != 0 {
+            return Err(self.refuse(Reason::Unused));
+        }
+        Ok(())
+    }
+
+    // The numbers of the word are in their ranges.
+    pub(crate) fn ranged(self, fits: bool) -> Result<(), Fault>
+        ensures { MatchResult result (λ _. fits ≡ true) (λ e. (fits ≡ false) × (e ≡ fault_at self.place reason.Range)) }
+    {
+        if !fits {
+            return Err(self.refuse(Reason::Range));
+        }
+        Ok(())
     }
 }

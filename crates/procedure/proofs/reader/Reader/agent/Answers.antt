@@ -10,7 +10,7 @@ use Rattle.procedure.proofs.reader.Reader.agent.Goals as goal
 pub returns : goal.returns
 returns c =
     let r = c.args.self.now in
-    let x = c.args.word in
+    let x = c.args.next.word in
     let b = c.requires.between in
     let right : judged (x.a + x.d) (agent_fits (vec_len r.agents) x) (crowded r.states x) ≡ None = search rules in
     let one : 0 < x.c = search rules in

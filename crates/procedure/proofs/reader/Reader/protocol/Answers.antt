@@ -12,7 +12,7 @@ use Rattle.procedure.proofs.reader.Reader.protocol.Goals as goal
 pub returns-then-len-self : goal.returns-then-len-self
 returns-then-len-self c =
     let r = c.args.self.now in
-    let x = c.args.word in
+    let x = c.args.next.word in
     let h = c.requires.ready.0 in
     let ms = vec_items r.masks in
     let ms' = vec_items c.push.new.self in
@@ -46,7 +46,7 @@ returns-then-len-self c =
 pub returns-else-len-self : goal.returns-else-len-self
 returns-else-len-self c =
     let r = c.args.self.now in
-    let x = c.args.word in
+    let x = c.args.next.word in
     let h = c.requires.ready.0 in
     let ms = vec_items r.masks in
     let ms' = vec_items c.push.new.self in
