@@ -29,8 +29,7 @@ pub fn open<'a>(lists: &Lists<'a>) -> Game<'a>
 // Looks are numbers of 16 bits, as their type says. A clause knows that of a list that is a parameter, and of no field.
 fn narrow(_looks: &[u16])
     ensures { list_all (λ v. nat_lt v 65536) _looks.now ≡ true }
-{
-}
+{}
 
 // One agent, one state, no atoms, action 0 only, look 0, and state 0 is a start.
 pub fn empty_game() -> Game<'static>

@@ -29,9 +29,3 @@ returns-in_err-settle g c =
       steps = p.2 ∙ stops _ _ c.loop-k.k c.loop-k.case.out _ _ h.0 (omega (arith, c.requires.many, c.loop-k-test.true)) (c.requires.fit (omega (arith, c.loop-k-test.true))) h.2 _ (ap g.S.System.means h.1) _ c.in_err-settle.ensures.steps;
       same = c.settle.ensures.same ∙ h.1;
     })
-
-pub returns : goal.returns
-returns g c = let h = c.loop-k.invariant in record {
-  steps = (h.0.leads, h.0.settled ∙ omega (arith, c.loop-k-test.false, c.loop-k.auto.k-end));
-  same = h.1;
-}

@@ -2,7 +2,7 @@ use Rattle.std.proofs.Common.{◌≡◌, ◌≤◌, Bool, true, false, cond, not
 use mir.Val.{bool_byte}
 use Rattle.std.proofs.lemmas.Result.{err_from_is_err_and}
 use Rattle.cases.specs.Shows.{model}
-use Rattle.verdicts.proofs.Counting.{asked_more, asked_all, count_le, refused_all}
+use Rattle.verdicts.proofs.Counting.{asked_more, count_le, refused_all}
 use Rattle.verdicts.proofs.report.report.Goals as goal
 
 byte_is : (x : Bool) → bool_byte x ≡ cond x 1 0
@@ -28,8 +28,3 @@ returns-in_err-here g c =
     let p = err_from_is_err_and c.from_residual.result c.from_residual.ensures.1 in
     let size = c.states-states.ensures ∙ ap (λ y. (g.S.System.means y).states) c.system.ensures in
     rw (p.1, p.2) (refused_all _ _ _ _ c.loop-state.state _ (omega (arith, size, c.loop-state-test.true)) c.in_err-here.ensures.steps)
-
-pub returns : goal.returns
-returns g c =
-    let size = c.states-states.ensures ∙ ap (λ y. (g.S.System.means y).states) c.system.ensures in
-    asked_all _ _ _ _ _ _ _ _ (omega (arith, c.loop-state-test.false, c.loop-state.auto.state-end)) size c.loop-state.invariant

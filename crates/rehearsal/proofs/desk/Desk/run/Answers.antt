@@ -1,7 +1,7 @@
-use Rattle.std.proofs.Common.{[], vec_items, sym, refl, ◌∙◌, subst, arith}
+use Rattle.std.proofs.Common.{[], vec_items, sym, refl, ◌∙◌, subst}
 use Rattle.cases.specs.Shows.{model}
 use Rattle.rehearsal.specs.Served.{Ran}
-use Rattle.rehearsal.proofs.Running.{ran_none, ran_more, ran_all}
+use Rattle.rehearsal.proofs.Running.{ran_none, ran_more}
 use Rattle.rehearsal.proofs.desk.Desk.run.Goals as goal
 
 pub loop-call-init : goal.loop-call-init
@@ -20,6 +20,3 @@ loop-call-preserved g c =
       same = s.same ∙ inv.same;
       ran = ran_more g.S.System.means _ _ _ _ _ _ _ _ c.args.calls.now c.loop-call.call-index _ _ _ _ inv.same c.loop-call-test.true inv.ran s.served c.in_ok-push.ensures.items;
     }
-
-pub returns : goal.returns
-returns g c = record { ran = ran_all _ _ _ _ _ c.args.calls.now c.loop-call.call-index _ (omega (arith, c.loop-call-test.false)) c.loop-call.invariant.ran }
