@@ -33,7 +33,7 @@ fn line_fits(word: Word, limit: u8) -> bool
     word.a <= 8 && word.d < limit
 }
 
-// What the reader keeps at a stage stands in the contracts. As a ghost field it would be stated over the fourteen fields one by one, where
+// What the reader keeps at a stage stands in the contracts. As a ghost field it would be stated over the fifteen fields one by one, where
 // `Ready` speaks of the reader as a whole; and it would have to hold where memory is wanting halfway, with the masks of an agent taken out.
 // Rule lines and label lines have methods each: they differ in their conditions, what a line becomes, where that goes and the stage after
 // it, and one generic line would share the two assignments at its start and the count.
