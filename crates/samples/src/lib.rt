@@ -3,9 +3,12 @@
 
 #[cfg(test)]
 mod tests {
+    use arenas::entry::Entry;
     use boards::{BitBoard, Board, ChangeBoard, fresh};
     use game::fault::Stop;
+    use game::goal::Goal;
     use game::system::System;
+    use goals::evaluate::planned;
     use procedure::reading::read_whole;
     use std::alloc::{AllocError, Global};
     use std::fmt::Write;
@@ -283,6 +286,39 @@ mod tests {
         };
         assert_eq!(rt; procedure.system.next(0, 5), 1);
         assert_eq!(rt; procedure.system.next(1, 4), 3);
+        Ok(())
+    }
+
+    // Goal 3 of the van's file: at state 1 agent 1 counts, and the goal is met after one step.
+    #[test]
+    fn plan_of_the_counter(rt: HostRuntime) -> Result<(), Fail> {
+        let heap = rt.alloc();
+        let file = bytes_of(heap, &VAN)?;
+        let Ok(procedure) = read_whole(heap, &file) else {
+            return Err(Fail::new("the van's file is refused"));
+        };
+        let mut board: BitBoard = fresh(heap, 4)?;
+        for state in 0..4 {
+            board.put(2, state);
+            if procedure.system.holds(0, state) {
+                board.put(0, state);
+            }
+        }
+        let system = &procedure.system;
+        let Some(entries) = planned(heap, system, &board, Goal::Until(2, 2, 0))? else {
+            return Err(Fail::new("a goal of U has no plan"));
+        };
+        assert_eq!(rt; entries.len(), 4);
+        assert_eq!(rt; entries.iter().filter(|entry| entry.granted).count(), 3);
+        assert_eq!(rt;
+            entries[1],
+            Entry {
+                granted: true,
+                rank: 1,
+                choice: 4
+            }
+        );
+        assert!(rt; planned(heap, system, &board, Goal::True)?.is_none());
         Ok(())
     }
 
