@@ -1,6 +1,6 @@
 use Rattle.std.proofs.Common.{[], vec_items, sym, refl, ◌∙◌, subst}
-use Rattle.cases.specs.Shows.{model}
-use Rattle.rehearsal.specs.Served.{Ran}
+use Rattle.cases.specs.Shows.{model, world}
+use Rattle.rehearsal.specs.Served.{Ran, Seated}
 use Rattle.rehearsal.proofs.Running.{ran_none, ran_more}
 use Rattle.rehearsal.proofs.desk.Desk.run.Goals as goal
 
@@ -20,3 +20,7 @@ loop-call-preserved g c =
       same = s.same ∙ inv.same;
       ran = ran_more g.S.System.means _ _ _ _ _ _ _ _ c.args.calls.now c.loop-call.call-index _ _ _ _ inv.same c.loop-call-test.true inv.ran s.served c.in_ok-push.ensures.items;
     }
+
+pub returns-clause-rehearsed : goal.returns-clause-rehearsed
+returns-clause-rehearsed g c none =
+    let (qs, run, h) = c.loop-call.invariant.ran [] (subst (λ ts. Seated ts []) (sym none) tt) in (world (model g.B.Board.shows c.loop-call.self.case) qs, run)
