@@ -42,7 +42,7 @@ impl Run<'_> {
     ) -> io::Result<()> {
         let rt = self.rt;
         let board = used_board::<B>(random, session.second.width, session.second.rows)?;
-        if let Some(place) = source.replay(random.heap, board, session)? {
+        if let Some(place) = source.replay(random.heap, board, session) {
             self.tally
                 .differences
                 .note(|| show(rt, B::NAME, session, place))?;
@@ -63,13 +63,13 @@ fn compare_sessions<P: Source + Drop, F: FnMut(&mut Random) -> Result<(P, Sessio
 {
     let mut run = Run {
         rt,
-        tally: Tally::new(random.heap),
+        tally: Tally::new(),
     };
     for _ in 0..count {
         let (source, session) = draw(random)?;
         run.try_on::<BitBoard, P>(random, &source, &session)?;
         run.try_on::<ChangeBoard, P>(random, &source, &session)?;
-        run.tally.add(&session)?;
+        run.tally.add(&session);
     }
     let tally = &run.tally;
     println!(rt; "{name}: {tally}")
@@ -106,7 +106,7 @@ pub(crate) fn compare_calls(rt: &HostRuntime, random: &mut Random) -> io::Result
         let states = plain.states.len();
         let second = Second::new(random.heap, plain, 13, states);
         let session = Session::whole(random, second, 12)?;
-        Ok((crew, session))
+        Ok((crew.file(random.heap)?, session))
     })?;
     compare_sessions(rt, random, "calls in any order", 3000, |random| {
         let listing = random.listing()?;

@@ -1,67 +1,82 @@
 // Counting: how often something came, and what differs.
-use game::fault::Fault;
-use std::alloc::{AllocError, Global};
-use std::collections::BTreeMap;
+use crate::refusal::{Refusal, number_of};
+use game::fault::Reason;
 use std::num::Wrapping;
 use std::{fmt, io};
 
-// How often each key came.
+// How often each number below 64 came.
 #[derive(Drop)]
-pub struct Counts<K: Ord> {
-    counts: BTreeMap<K, Wrapping<usize>>,
+pub struct Counts {
+    counts: [Wrapping<usize>; 64],
 }
 
-impl<K: Ord + Drop> Counts<K> {
-    pub(crate) fn new(heap: Global) -> Self {
+impl Counts {
+    pub(crate) fn new() -> Counts {
         Counts {
-            counts: BTreeMap::new(heap),
+            counts: [Wrapping(0); 64],
         }
     }
 
-    pub(crate) fn add(&mut self, key: K) -> Result<(), AllocError> {
-        *self.counts.entry(key)?.or_insert(Wrapping(0)) += 1;
-        Ok(())
+    pub(crate) fn add(&mut self, number: u8) {
+        if let Some(count) = self.counts.get_mut(usize::from(number)) {
+            *count += 1;
+        }
     }
 
-    pub(crate) fn of(&self, key: &K) -> usize {
-        self.counts.get(key).map_or(0, |count| count.0)
+    pub(crate) fn of(&self, number: usize) -> usize {
+        self.counts.get(number).map_or(0, |count| count.0)
     }
 
     pub(crate) fn total(&self) -> usize {
-        self.counts.values().sum::<Wrapping<usize>>().0
+        self.counts.iter().sum::<Wrapping<usize>>().0
     }
 }
 
-// How much was accepted, and how often something was refused, by the number of the refusal.
-#[derive(Drop)]
-pub struct Outcomes {
-    accepted: Wrapping<usize>,
-    refusals: Counts<u8>,
-}
-
-impl Outcomes {
-    pub(crate) fn new(heap: Global) -> Self {
-        Outcomes {
-            accepted: Wrapping(0),
-            refusals: Counts::new(heap),
-        }
-    }
-
-    pub(crate) fn add(&mut self, refusal: Option<Fault>) -> Result<(), AllocError> {
-        match refusal {
-            Some(fault) => self.refusals.add(u8::from(fault.reason))?,
-            None => self.accepted += 1,
+// The numbers that came.
+impl fmt::Display for Counts {
+    fn fmt<W: fmt::Write>(&self, f: &mut fmt::Formatter<W>) -> fmt::Result {
+        for (number, count) in self.counts.iter().enumerate() {
+            let count = count.0;
+            if count > 0 {
+                write!(f, " {number}: {count}")?;
+            }
         }
         Ok(())
     }
 }
 
-impl fmt::Display for Outcomes {
+// How much was accepted, and how often something was refused, for reasons that are all printed.
+#[derive(Drop)]
+pub struct Outcomes<'a> {
+    reasons: &'a [Reason],
+    accepted: Wrapping<usize>,
+    refusals: Counts,
+}
+
+impl<'a> Outcomes<'a> {
+    pub(crate) fn new(reasons: &'a [Reason]) -> Outcomes<'a> {
+        Outcomes {
+            reasons,
+            accepted: Wrapping(0),
+            refusals: Counts::new(),
+        }
+    }
+
+    pub(crate) fn add(&mut self, refusal: Option<Refusal>) {
+        match refusal {
+            Some(refusal) => self.refusals.add(refusal.number),
+            None => self.accepted += 1,
+        }
+    }
+}
+
+impl fmt::Display for Outcomes<'_> {
     fn fmt<W: fmt::Write>(&self, f: &mut fmt::Formatter<W>) -> fmt::Result {
         let accepted = self.accepted.0;
         write!(f, "{accepted}")?;
-        for (number, count) in &self.refusals.counts {
-            let count = count.0;
+        for reason in self.reasons {
+            let number = number_of(*reason);
+            let count = self.refusals.of(usize::from(number));
             write!(f, ", {number}: {count}")?;
         }
         Ok(())
@@ -93,15 +108,5 @@ impl fmt::Display for Differences {
     fn fmt<W: fmt::Write>(&self, f: &mut fmt::Formatter<W>) -> fmt::Result {
         let count = self.0.0;
         write!(f, "{count} differ")
-    }
-}
-
-impl<K: Ord + fmt::Display> fmt::Display for Counts<K> {
-    fn fmt<W: fmt::Write>(&self, f: &mut fmt::Formatter<W>) -> fmt::Result {
-        for (key, count) in &self.counts {
-            let count = count.0;
-            write!(f, " {key}: {count}")?;
-        }
-        Ok(())
     }
 }

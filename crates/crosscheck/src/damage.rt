@@ -1,7 +1,8 @@
 // Lists that make no game, and the first rule that they break.
 use crate::listing::Listing;
 use crate::random::Random;
-use game::fault::{Fault, Reason};
+use crate::refusal::Refusal;
+use game::fault::Reason;
 use std::alloc::AllocError;
 use systems::line::MoveLine;
 
@@ -38,24 +39,15 @@ impl Listing {
     }
 
     // The first rule that the lists break, at its entry.
-    pub(crate) fn broken(&self) -> Result<(), Fault> {
+    pub(crate) fn broken(&self) -> Result<(), Refusal> {
         if !self.has_shape() {
-            return Err(Fault {
-                reason: Reason::Shape,
-                place: 0,
-            });
+            return Err(Refusal::at(Reason::Shape, 0));
         }
         if let Some(place) = self.bad_entry() {
-            return Err(Fault {
-                reason: Reason::Entry,
-                place,
-            });
+            return Err(Refusal::at(Reason::Entry, place));
         }
         if self.starts.iter().all(|start| *start == 0) {
-            return Err(Fault {
-                reason: Reason::NoStart,
-                place: 0,
-            });
+            return Err(Refusal::at(Reason::NoStart, 0));
         }
         Ok(())
     }

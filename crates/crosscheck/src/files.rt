@@ -6,8 +6,9 @@ use crate::kind::Kind;
 use crate::plain::choices_of;
 use crate::questions::first_otherwise;
 use crate::random::Random;
+use crate::refusal::{Refusal, Wrong};
 use crate::second_reader::{Found, read_file};
-use game::fault::Stop;
+use game::fault::{Reason, Stop};
 use game::goal::Word;
 use game::system::System;
 use procedure::procedure::Procedure;
@@ -145,18 +146,27 @@ fn same_found(random: &mut Random, read: &Procedure, found: &Found) -> Result<bo
 fn agrees(
     random: &mut Random,
     bytes: &[u8],
-    second: &Result<Found, Stop>,
+    second: &Result<Found, Wrong>,
 ) -> Result<bool, AllocError> {
     match (read_whole(random.heap, bytes), second) {
         (Ok(read), Ok(found)) => same_found(random, &read, found),
-        (Err(Stop::Refused(fault)), Err(Stop::Refused(wanted))) => Ok(fault == *wanted),
+        (Err(Stop::Refused(fault)), Err(Wrong::Refused(wanted))) => {
+            Ok(Refusal::heard(fault) == *wanted)
+        }
         _ => Ok(false),
     }
 }
 
 pub(crate) fn compare_files(rt: &HostRuntime, random: &mut Random) -> io::Result<()> {
     let heap = rt.alloc();
-    let mut outcomes = Outcomes::new(heap);
+    let mut outcomes = Outcomes::new(&[
+        Reason::Length,
+        Reason::Kind,
+        Reason::Unused,
+        Reason::Range,
+        Reason::Crowded,
+        Reason::Count,
+    ]);
     let mut differences = Differences::new();
     for k in 0..10000 {
         let bytes = random.file()?;
@@ -165,9 +175,9 @@ pub(crate) fn compare_files(rt: &HostRuntime, random: &mut Random) -> io::Result
             differences.note(|| println!(rt; "file {k} differs: {bytes:?}"))?;
         }
         match second {
-            Ok(_) => outcomes.add(None)?,
-            Err(Stop::Refused(fault)) => outcomes.add(Some(fault))?,
-            Err(Stop::Memory) => return Err(AllocError.into()),
+            Ok(_) => outcomes.add(None),
+            Err(Wrong::Refused(refusal)) => outcomes.add(Some(refusal)),
+            Err(Wrong::Memory) => {}
         }
     }
     println!(rt; "procedure files: 10000, {differences}; read {outcomes}")

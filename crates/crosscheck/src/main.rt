@@ -17,6 +17,7 @@ mod plain;
 mod questions;
 mod random;
 mod readings;
+mod refusal;
 mod second;
 mod second_reader;
 mod session;

@@ -4,7 +4,9 @@ use crate::hiring::Limits;
 use crate::plain::{Plain, Seat, State};
 use crate::questions::Asked;
 use crate::random::Random;
+use crate::refusal::Refusal;
 use crate::source::Source;
+use game::fault::Reason;
 use std::alloc::{AllocError, Global};
 use std::num::Wrapping;
 use std::{fmt, io};
@@ -78,23 +80,23 @@ fn empty_plain(heap: Global) -> Result<Plain, AllocError> {
 fn compare_checks(rt: &HostRuntime, random: &mut Random) -> io::Result<()> {
     let heap = rt.alloc();
     let mut opened = Questioned::new();
-    let mut outcomes = Outcomes::new(heap);
+    let mut outcomes = Outcomes::new(&[Reason::Shape, Reason::Entry, Reason::NoStart]);
     let mut differences = Differences::new();
     for k in 0..6000 {
         let mut listing = random.listing()?;
         random.damage(&mut listing)?;
         let broken = listing.broken();
-        if check(&listing.lists()) != broken {
+        if check(&listing.lists()).map_err(Refusal::heard) != broken {
             differences.note(|| println!(rt;
                 "the check differs at lists {k}, should be {broken:?}"
             ))?;
         }
-        outcomes.add(broken.err())?;
+        outcomes.add(broken.err());
         let plain = match broken {
             Ok(()) => listing.plain(heap)?,
             Err(_) => empty_plain(heap)?,
         };
-        let found = listing.first_otherwise(&plain, random)?;
+        let found = listing.first_otherwise(&plain, random);
         opened.add(rt, &plain, found)?;
     }
     println!(rt; "check of lists: {differences}; accepted {outcomes}")?;
@@ -111,7 +113,7 @@ fn compare_systems<
     let mut questioned = Questioned::new();
     for k in 0..2000 {
         let (source, plain) = draw(random, k)?;
-        let found = source.first_otherwise(&plain, random)?;
+        let found = source.first_otherwise(&plain, random);
         questioned.add(rt, &plain, found)?;
     }
     println!(rt; "questions to {name}: {questioned}")
@@ -130,7 +132,7 @@ pub(crate) fn compare_readings(rt: &HostRuntime, random: &mut Random) -> io::Res
             states: 48,
         })?;
         let plain = crew.plain(random.heap)?;
-        Ok((crew, plain))
+        Ok((crew.file(random.heap)?, plain))
     })?;
     compare_checks(rt, random)
 }

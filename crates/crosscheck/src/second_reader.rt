@@ -2,7 +2,8 @@
 use crate::crew::{Crew, Guarded, Member, Test, states_of};
 use crate::hiring::Scope;
 use crate::kind::Kind;
-use game::fault::{Fault, Reason, Stop};
+use crate::refusal::{Refusal, Wrong};
+use game::fault::Reason;
 use game::goal::Word;
 use std::alloc::Global;
 
@@ -20,21 +21,18 @@ struct Line {
 }
 
 impl Line {
-    fn refuse<T>(&self, reason: Reason) -> Result<T, Stop> {
-        Err(Stop::Refused(Fault {
-            reason,
-            place: self.place,
-        }))
+    fn refuse<T>(&self, reason: Reason) -> Result<T, Wrong> {
+        Err(Wrong::Refused(Refusal::at(reason, self.place)))
     }
 
-    fn zero(&self, field: u8) -> Result<(), Stop> {
+    fn zero(&self, field: u8) -> Result<(), Wrong> {
         if field != 0 {
             return self.refuse(Reason::Unused);
         }
         Ok(())
     }
 
-    fn range(&self, fine: bool) -> Result<(), Stop> {
+    fn range(&self, fine: bool) -> Result<(), Wrong> {
         if !fine {
             return self.refuse(Reason::Range);
         }
@@ -102,20 +100,18 @@ impl<'a> Cursor<'a> {
     }
 
     // The next line, which has to be of this kind.
-    fn take(&mut self, kind: Kind) -> Result<Line, Stop> {
+    fn take(&mut self, kind: Kind) -> Result<Line, Wrong> {
         let place = self.place();
-        self.next_of(kind).ok_or(Stop::Refused(Fault {
-            reason: Reason::Kind,
-            place,
-        }))
+        self.next_of(kind)
+            .ok_or(Wrong::Refused(Refusal::at(Reason::Kind, place)))
     }
 
     // All lines of a kind that come next, each read with what belongs to it.
-    fn many<T: Drop, F: FnMut(&mut Cursor<'a>, Line) -> Result<T, Stop>>(
+    fn many<T: Drop, F: FnMut(&mut Cursor<'a>, Line) -> Result<T, Wrong>>(
         &mut self,
         kind: Kind,
         mut read: F,
-    ) -> Result<Vec<T>, Stop>
+    ) -> Result<Vec<T>, Wrong>
         requires { F.IsAlwaysCallable read }
     {
         let mut list = Vec::new(self.heap);
@@ -135,7 +131,7 @@ impl<'a> Cursor<'a> {
         line: Line,
         limit: usize,
         test: F,
-    ) -> Result<Guarded, Stop>
+    ) -> Result<Guarded, Wrong>
         requires { F.IsAlwaysCallable test }
     {
         let Word { a, b, c, d, .. } = line.word;
@@ -157,7 +153,7 @@ impl<'a> Cursor<'a> {
         Ok(Guarded { result: d, tests })
     }
 
-    fn masks(&mut self, locals: usize) -> Result<Vec<u8>, Stop> {
+    fn masks(&mut self, locals: usize) -> Result<Vec<u8>, Wrong> {
         let mut masks = Vec::new(self.heap);
         for local in 0..locals {
             let line = self.take(Kind::Protocol)?;
@@ -171,7 +167,7 @@ impl<'a> Cursor<'a> {
     }
 
     // One of so many agents, after those that are read.
-    fn member(&mut self, members: &[Member], agents: usize) -> Result<Member, Stop> {
+    fn member(&mut self, members: &[Member], agents: usize) -> Result<Member, Wrong> {
         let line = self.take(Kind::Agent)?;
         line.zero(line.word.a)?;
         line.zero(line.word.d)?;
@@ -190,7 +186,7 @@ impl<'a> Cursor<'a> {
         Ok(Member { masks, rules })
     }
 
-    fn members(&mut self, agents: usize) -> Result<Vec<Member>, Stop> {
+    fn members(&mut self, agents: usize) -> Result<Vec<Member>, Wrong> {
         let mut members = Vec::new(self.heap);
         for _ in 0..agents {
             let member = self.member(&members, agents)?;
@@ -199,7 +195,7 @@ impl<'a> Cursor<'a> {
         Ok(members)
     }
 
-    fn starts(&mut self, states: usize) -> Result<Vec<usize>, Stop> {
+    fn starts(&mut self, states: usize) -> Result<Vec<usize>, Wrong> {
         let starts = self.many(Kind::Start, |_, line| {
             line.zero(line.word.a)?;
             line.zero(line.word.b)?;
@@ -207,15 +203,12 @@ impl<'a> Cursor<'a> {
             Ok(line.number())
         })?;
         if starts.is_empty() {
-            return Err(Stop::Refused(Fault {
-                reason: Reason::Kind,
-                place: self.place(),
-            }));
+            return Err(Wrong::Refused(Refusal::at(Reason::Kind, self.place())));
         }
         Ok(starts)
     }
 
-    fn crew(&mut self) -> Result<Crew, Stop> {
+    fn crew(&mut self) -> Result<Crew, Wrong> {
         let line = self.take(Kind::System)?;
         let Word { a, b, c, d, .. } = line.word;
         line.zero(a)?;
@@ -235,7 +228,7 @@ impl<'a> Cursor<'a> {
     }
 
     // The end word, and nothing after it.
-    fn end(&mut self) -> Result<(), Stop> {
+    fn end(&mut self) -> Result<(), Wrong> {
         let line = self.take(Kind::End)?;
         line.zero(line.word.a)?;
         line.zero(line.word.b)?;
@@ -249,14 +242,11 @@ impl<'a> Cursor<'a> {
     }
 }
 
-pub(crate) fn read_file(heap: Global, bytes: &[u8]) -> Result<Found, Stop> {
+pub(crate) fn read_file(heap: Global, bytes: &[u8]) -> Result<Found, Wrong> {
     let (chunks, rest) = bytes.as_chunks::<4>();
     let count = chunks.len();
     if !rest.is_empty() || !(1..=4096).contains(&count) {
-        return Err(Stop::Refused(Fault {
-            reason: Reason::Length,
-            place: count,
-        }));
+        return Err(Wrong::Refused(Refusal::at(Reason::Length, count)));
     }
     let lines: Vec<Line> = chunks
         .iter()

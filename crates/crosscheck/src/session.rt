@@ -1,5 +1,5 @@
 // Lists of calls, with what each should say.
-use crate::ask::{Ask, hear};
+use crate::ask::{Ask, Said, hear};
 use crate::goal_word::is_strategic;
 use crate::plain::choices_of;
 use crate::random::Random;
@@ -7,14 +7,13 @@ use crate::second::Second;
 use boards::Board;
 use cases::case::Case;
 use game::system::System;
-use law::call::Answer;
 use std::alloc::{AllocError, Global};
 
 // A call, and what it should say.
 #[derive(Clone, Copy, Debug)]
 pub struct Step {
     pub ask: Ask,
-    pub said: Option<Answer>,
+    pub said: Option<Said>,
 }
 
 // The calls that a second case was asked.
@@ -121,21 +120,17 @@ impl Session {
         Ok(session)
     }
 
-    // Makes the calls on a case of the system and the board; gives the first that says something else.
+    // Makes the calls on a case of the system and the board; gives the first that says something else. A case that has no memory differs
+    // from the first call on.
     pub(crate) fn replay<S: System + Drop, B: Board + Drop>(
         &self,
         system: S,
         board: B,
-    ) -> Result<Option<usize>, AllocError> {
+    ) -> Option<usize> {
         let Ok(mut case) = Case::open(self.heap, system, board) else {
-            return Err(AllocError);
+            return Some(0);
         };
-        for (place, step) in self.steps.iter().enumerate() {
-            if Some(hear(self.heap, &mut case, step.ask)?) != step.said {
-                return Ok(Some(place));
-            }
-        }
-        Ok(None)
+        self.steps.iter().position(|step| Some(hear(self.heap, &mut case, step.ask)) != step.said)
     }
 }
 

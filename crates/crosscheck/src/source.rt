@@ -1,4 +1,4 @@
-// What a system comes from: lists, or a procedure file.
+// What a system comes from: lists, or the bytes of a procedure file.
 use crate::crew::Crew;
 use crate::file::{bytes_of, system_of, words_of};
 use crate::listing::Listing;
@@ -12,71 +12,46 @@ use systems::listed_system::open;
 
 pub trait Source {
     // The first question that the system answers otherwise.
-    fn first_otherwise(
-        &self,
-        plain: &Plain,
-        random: &mut Random,
-    ) -> Result<Option<Asked>, AllocError>;
+    fn first_otherwise(&self, plain: &Plain, random: &mut Random) -> Option<Asked>;
 
     // The first call of a session to which a case of the system says something else.
-    fn replay<B: Board + Drop>(
-        &self,
-        heap: Global,
-        board: B,
-        session: &Session,
-    ) -> Result<Option<usize>, AllocError>;
+    fn replay<B: Board + Drop>(&self, heap: Global, board: B, session: &Session) -> Option<usize>;
 }
 
 impl Source for Listing {
-    fn first_otherwise(
-        &self,
-        plain: &Plain,
-        random: &mut Random,
-    ) -> Result<Option<Asked>, AllocError> {
-        Ok(first_otherwise(&open(&self.lists()), plain, random))
+    fn first_otherwise(&self, plain: &Plain, random: &mut Random) -> Option<Asked> {
+        first_otherwise(&open(&self.lists()), plain, random)
     }
 
-    fn replay<B: Board + Drop>(
-        &self,
-        _heap: Global,
-        board: B,
-        session: &Session,
-    ) -> Result<Option<usize>, AllocError> {
+    fn replay<B: Board + Drop>(&self, _heap: Global, board: B, session: &Session) -> Option<usize> {
         session.replay(open(&self.lists()), board)
     }
 }
 
-impl Source for Crew {
+// The procedure file of an agents' system.
+#[derive(Drop)]
+pub struct File(Vec<u8>);
+
+impl Crew {
+    pub(crate) fn file(&self, heap: Global) -> Result<File, AllocError> {
+        Ok(File(bytes_of(heap, &words_of(heap, self, &[])?)?))
+    }
+}
+
+impl Source for File {
     // A file that is not read has no sizes.
-    fn first_otherwise(
-        &self,
-        plain: &Plain,
-        random: &mut Random,
-    ) -> Result<Option<Asked>, AllocError> {
-        let bytes = self.file(random.heap)?;
-        match system_of(random.heap, &bytes) {
-            Some(system) => Ok(first_otherwise(&system, plain, random)),
-            None => Ok(Some(Asked::Sizes)),
+    fn first_otherwise(&self, plain: &Plain, random: &mut Random) -> Option<Asked> {
+        match system_of(random.heap, &self.0) {
+            Some(system) => first_otherwise(&system, plain, random),
+            None => Some(Asked::Sizes),
         }
     }
 
     // A file that is not read differs from the first call on.
-    fn replay<B: Board + Drop>(
-        &self,
-        heap: Global,
-        board: B,
-        session: &Session,
-    ) -> Result<Option<usize>, AllocError> {
-        let bytes = self.file(heap)?;
-        match system_of(heap, &bytes) {
+    fn replay<B: Board + Drop>(&self, heap: Global, board: B, session: &Session) -> Option<usize> {
+        match system_of(heap, &self.0) {
             Some(system) => session.replay(system, board),
-            None => Ok(Some(0)),
+            None => Some(0),
         }
-    }
-}
-
-impl Crew {
-    fn file(&self, heap: Global) -> Result<Vec<u8>, AllocError> {
-        bytes_of(heap, &words_of(heap, self, &[])?)
     }
 }

@@ -1,9 +1,7 @@
 // What sessions showed, and how much of it said something.
-use crate::ask::Ask;
+use crate::ask::{Ask, Said};
 use crate::counts::{Counts, Differences};
 use crate::session::{Session, Step};
-use law::call::Answer;
-use std::alloc::{AllocError, Global};
 use std::fmt;
 use std::num::Wrapping;
 
@@ -44,9 +42,9 @@ pub struct Tally {
     systems: Wrapping<usize>,
     calls: Wrapping<usize>,
     // by operator
-    goals: Counts<usize>,
+    goals: Counts,
     // by number
-    refusals: Counts<u8>,
+    refusals: Counts,
     granted: Wrapping<usize>,
     denied: Wrapping<usize>,
     rounds: Wrapping<usize>,
@@ -56,13 +54,13 @@ pub struct Tally {
 }
 
 impl Tally {
-    pub(crate) fn new(heap: Global) -> Tally {
+    pub(crate) fn new() -> Tally {
         Tally {
             differences: Differences::new(),
             systems: Wrapping(0),
             calls: Wrapping(0),
-            goals: Counts::new(heap),
-            refusals: Counts::new(heap),
+            goals: Counts::new(),
+            refusals: Counts::new(),
             granted: Wrapping(0),
             denied: Wrapping(0),
             rounds: Wrapping(0),
@@ -72,28 +70,26 @@ impl Tally {
         }
     }
 
-    fn add_step(&mut self, step: Step) -> Result<(), AllocError> {
+    fn add_step(&mut self, step: Step) {
         self.calls += 1;
         match (step.ask, step.said) {
-            (_, Some(Answer::Refused(fault))) => self.refusals.add(u8::from(fault.reason))?,
-            (Ask::Enter(word), Some(Answer::Number(_))) => self.goals.add(usize::from(word.a))?,
-            (Ask::Query(..), Some(Answer::Told(true))) => self.granted += 1,
-            (Ask::Query(..), Some(Answer::Told(false))) => self.denied += 1,
-            (Ask::Move(_), Some(Answer::Entry(rank, _))) => self.moves.add(rank),
-            (Ask::Reply(..), Some(Answer::Entry(rank, _))) => self.replies.add(rank),
+            (_, Some(Said::Refused(refusal))) => self.refusals.add(refusal.number),
+            (Ask::Enter(word), Some(Said::Number(_))) => self.goals.add(word.a),
+            (Ask::Query(..), Some(Said::Told(true))) => self.granted += 1,
+            (Ask::Query(..), Some(Said::Told(false))) => self.denied += 1,
+            (Ask::Move(_), Some(Said::Entry(rank, _))) => self.moves.add(rank),
+            (Ask::Reply(..), Some(Said::Entry(rank, _))) => self.replies.add(rank),
             _ => {}
         }
-        Ok(())
     }
 
-    pub(crate) fn add(&mut self, session: &Session) -> Result<(), AllocError> {
+    pub(crate) fn add(&mut self, session: &Session) {
         self.systems += 1;
         self.rounds += session.second.settled.depth.rounds;
         self.common += session.second.settled.depth.common;
         for step in &session.steps {
-            self.add_step(*step)?;
+            self.add_step(*step);
         }
-        Ok(())
     }
 }
 
@@ -107,7 +103,7 @@ impl fmt::Display for Tally {
             f,
             "{systems} systems, {total} goals, {calls} calls on each of two boards, {differences}"
         )?;
-        let goals = std::array::from_fn::<usize, 11, _>(|operator| self.goals.of(&operator));
+        let goals = std::array::from_fn::<usize, 11, _>(|operator| self.goals.of(operator));
         let granted = self.granted.0;
         let denied = self.denied.0;
         writeln!(

@@ -45,11 +45,11 @@ module _ (M : Meaning) (m : Model) (qs : List Play) (i : ℕ) where
       (subst (λ o. Tells' M (world m qs) i b (awaiting_reply o) Idle (world m qs)) (sym at) (refl, refl))
 
   -- there is no such play
-  announce_none : slice_get qs i ≡ None → Step M (world m qs) (Announce i) Idle (world m qs)
+  pub announce_none : slice_get qs i ≡ None → Step M (world m qs) (Announce i) Idle (world m qs)
   announce_none at = step_does M (world m qs) (Announce i) Idle (world m qs) (ap (λ o. first (announcing M (world m qs) (awaiting_move o))) at)
       (subst (λ o. Announces' (world m qs) i (awaiting_move o) Idle (world m qs)) (sym at) (refl, refl))
 
-  tell_none : (b : ℕ) → slice_get qs i ≡ None → Step M (world m qs) (Tell i b) Idle (world m qs)
+  pub tell_none : (b : ℕ) → slice_get qs i ≡ None → Step M (world m qs) (Tell i b) Idle (world m qs)
   tell_none b at = step_does M (world m qs) (Tell i b) Idle (world m qs) (ap (λ o. first (telling M (world m qs) (awaiting_reply o) b)) at)
       (subst (λ o. Tells' M (world m qs) i b (awaiting_reply o) Idle (world m qs)) (sym at) (refl, refl))
 

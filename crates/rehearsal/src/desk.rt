@@ -6,7 +6,7 @@ ghost use Rattle.law.specs.Refusals.{no_board};
 ghost use Rattle.law.specs.declared.call.Call.TheVariants.{Begin, End};
 ghost use Rattle.cases.specs.Shows.{model, system_of, out_of, advised};
 ghost use Rattle.rehearsal.specs.Turning.{call_of};
-ghost use Rattle.rehearsal.specs.Served.{Served, EndsNothing, Ran, trial};
+ghost use Rattle.rehearsal.specs.Served.{Served, EndsNothing, Ran, Rehearsed, trial};
 
 use crate::turn::{Turn, Turned, turn_play};
 use boards::Board;
@@ -137,6 +137,7 @@ impl<S: System, B: Board> Desk<S, B> {
 
     // Serves the calls in their order, and gives their answers.
     pub(crate) fn run(&mut self, heap: Global, calls: &[Call]) -> Result<Vec<Answer>, AllocError>
+        ensures rehearsed { self.old.plays.items ≡ [] → IfOk result (λ v. Rehearsed (S.System.means (system_of self.old.case)) (model B.Board.shows self.old.case) calls.now v.items) }
         ensures ran { IfOk result (λ v. Ran (S.System.means (system_of self.old.case)) (model B.Board.shows self.old.case) self.old.plays.items calls.now v.items (model B.Board.shows self.new.case) self.new.plays.items) }
     {
         let mut answers = Vec::new(heap);

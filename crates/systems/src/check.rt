@@ -27,15 +27,20 @@ pub fn check(lists: &Lists<'_>) -> Result<(), Fault>
     Ok(())
 }
 
-// The place of the first entry out of range, of the masks, else of the marks, else of the move lines.
+// The place of the first entry out of range, of the masks, else of the marks, else of the move lines: the later lists are read only where
+// the earlier ones are right.
 fn first_bad(lists: &Lists<'_>) -> Option<usize>
     requires { lists.now.atoms < 32 }
     ensures { result ≡ option_or (option_or (position bad_mask lists.now.masks.now) (position (bad_mark lists.now.atoms) lists.now.marks.now))
         (position (bad_move lists.now.states) lists.now.moves.now) }
 {
-    first_bad_mask(lists.masks)
-        .or(first_bad_mark(lists.marks, lists.atoms))
-        .or(first_bad_move(lists.moves, lists.states))
+    if let Some(place) = first_bad_mask(lists.masks) {
+        return Some(place);
+    }
+    if let Some(place) = first_bad_mark(lists.marks, lists.atoms) {
+        return Some(place);
+    }
+    first_bad_move(lists.moves, lists.states)
 }
 
 // The first mask that is 0 or above 15.

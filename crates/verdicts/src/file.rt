@@ -5,7 +5,7 @@ ghost use Rattle.verdicts.specs.Verdicts.{Verdict};
 
 use crate::judge::judge;
 use crate::line::Line;
-// The board that verdicts are found on.
+// The board that verdicts are found on: `BitBoard` or `ChangeBoard`.
 use boards::{BitBoard as Marks, fresh};
 use game::fault::{Fault, Stop};
 use game::goal::Word;

@@ -1,7 +1,7 @@
 use Rattle.std.proofs.Common.{[], vec_items, sym, refl, ◌∙◌, subst}
-use Rattle.cases.specs.Shows.{model}
-use Rattle.rehearsal.specs.Served.{Ran}
-use Rattle.rehearsal.proofs.Running.{ran_none, ran_more}
+use Rattle.cases.specs.Shows.{model, world}
+use Rattle.rehearsal.specs.Served.{Ran, Seated}
+use Rattle.rehearsal.proofs.Running.{ran_none, ran_more, ran_all}
 use Rattle.rehearsal.proofs.desk.Desk.run.Goals as goal
 
 pub loop-call-init : goal.loop-call-init
@@ -20,3 +20,10 @@ loop-call-preserved g c =
       same = s.same ∙ inv.same;
       ran = ran_more g.S.System.means _ _ _ _ _ _ _ _ c.args.calls.now c.loop-call.call-index _ _ _ _ inv.same c.loop-call-test.true inv.ran s.served c.in_ok-push.ensures.items;
     }
+
+pub returns-clause-rehearsed : goal.returns-clause-rehearsed
+returns-clause-rehearsed g c none =
+    let me = c.args.self.now in
+    let it = c.loop-call.self in
+    let ran = ran_all (g.S.System.means me.case.system) (model g.B.Board.shows me.case) (model g.B.Board.shows it.case) (vec_items me.plays) (vec_items it.plays) c.args.calls.now c.loop-call.call-index (vec_items c.loop-call.answers) c.loop-call-test.false c.loop-call.invariant.ran in
+    let (qs, run, h) = ran [] (subst (λ ts. Seated ts []) (sym none) tt) in (world (model g.B.Board.shows it.case) qs, run)
